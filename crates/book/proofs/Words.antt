@@ -1,0 +1,34 @@
+-- The records of some bytes, one after the other.
+use mathlib.Core.Path.{_≡_, refl, sym, ap, _∙_}
+use mathlib.Core.List.{List, [], _∷_}
+use Prim.Native.Nat.{ℕ, suc, _≤_, _<_, _+_, _-_, _/_}
+use native.Mathlib.Omega.{arith}
+use lib.ListN.{length, getD, drop, take}
+use Rattle.std.proofs.shelf.Lists.{length-drop, take-rest, getD-take}
+use Rattle.packing.specs.Fields.{word}
+use Rattle.book.specs.declared.values.Entry.{Entry}
+use Rattle.book.specs.Format.{entry-of}
+use Rattle.book.specs.Reading.{words-of, words, entries}
+
+pub words-step : (s : List ℕ) → 6 ≤ length s → words s ≡ word s ∷ words (drop 6 s)
+words-step s h =
+    let e : length s / 6 ≡ suc (length (drop 6 s) / 6) = rw length-drop (omega arith) in
+    ap (λ n. words-of n s) e
+
+pub words-short : (s : List ℕ) → length s < 6 → words s ≡ []
+words-short s h = let e : length s / 6 ≡ 0 = omega arith in ap (λ n. words-of n s) e
+
+-- what a slice pattern calls the rest
+pub rest : (s : List ℕ) → take (length s - 6) (drop 6 s) ≡ drop 6 s
+rest s = take-rest s 6
+
+word-take : (s : List ℕ) → word (take 6 s) ≡ word s
+word-take s =
+    rw (getD-take 6 s 0 0 (omega arith), getD-take 6 s 1 0 (omega arith), getD-take 6 s 2 0 (omega arith), getD-take 6 s 3 0 (omega arith), getD-take 6 s 4 0 (omega arith), getD-take 6 s 5 0 (omega arith))
+
+pub entries-step : (s : List ℕ) (x : Entry) → 6 ≤ length s → x ≡ entry-of (word (take 6 s)) → entries s ≡ x ∷ entries (take (length s - 6) (drop 6 s))
+entries-step s x h e =
+    let first = words-step s h in
+    let same = word-take s in
+    let part = rest s in
+    cc

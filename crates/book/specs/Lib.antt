@@ -1,0 +1,5 @@
+pub mod Numbers
+pub mod Format
+pub mod Questions
+pub mod Reading
+pub mod Laws
