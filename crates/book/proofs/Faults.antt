@@ -6,7 +6,8 @@ use mathlib.Core.Logic.{_⊎_, inl, inr}
 use Prim.Native.Nat.{ℕ, _+_, _-_, _≤_, _<_}
 use native.Mathlib.Omega.{arith}
 use lib.Dec.{leb}
-use lib.ListN.{length, take, drop}
+use lib.ListN.{length, getD, take, drop}
+use Rattle.std.proofs.shelf.Lists.{at-drop-more, at-drop-all}
 use Rattle.std.proofs.shelf.Tests.{cond-true, cond-false, le-leb, lt-leb}
 use Rattle.std.specs.declared.result.Result.the-variants.{Ok, Err}
 use Rattle.std.specs.shelf.Lists.{All}
@@ -47,49 +48,63 @@ fails (a ∷ later) q e =
         record { earlier = []; later = later; order = ap (λ x. x ∷ later) pair; passed = tt }
     ] refl e
 
-pub records-pass : (w k : ℕ) (ns : List ℕ) → first-fault w k ns ≡ None → All (λ n. Passes (record-questions w n)) ns
-records-pass w k [] e = tt
-records-pass w k (n ∷ ns) e =
-    elim (first-no (record-questions w n)) as (λ o. (first-no (record-questions w n) ≡ o) → fault-or o k (first-fault w (k + 1) ns) ≡ None → All (λ m. Passes (record-questions w m)) (n ∷ ns)) [
-      None ↦ λ is h. (passes (record-questions w n) is, records-pass w (k + 1) ns h)
-    | Some q ↦ λ is h. absurd (grind arith)
-    ] refl e
+module _ {X : Type 0} (asks : X → List Asked) where
+  pub records-pass : (k : ℕ) (xs : List X) → first-fault asks k xs ≡ None → All (λ (x : X). Passes (asks x)) xs
+  records-pass k [] e = tt
+  records-pass k (x ∷ xs) e =
+      elim (first-no (asks x)) as (λ o. (first-no (asks x) ≡ o) → fault-or o k (first-fault asks (k + 1) xs) ≡ None → All (λ (y : X). Passes (asks y)) (x ∷ xs)) [
+        None ↦ λ is h. (passes (asks x) is, records-pass (k + 1) xs h)
+      | Some q ↦ λ is h. absurd (grind arith)
+      ] refl e
 
-pub record-fails : (w k : ℕ) (ns : List ℕ) (f : Fault) → first-fault w k ns ≡ Some f → Record-fails w k ns f
-record-fails w k [] f e = absurd (grind arith)
-record-fails w k (n ∷ ns) f e =
-    elim (first-no (record-questions w n)) as (λ o. (first-no (record-questions w n) ≡ o) → fault-or o k (first-fault w (k + 1) ns) ≡ Some f → Record-fails w k (n ∷ ns) f) [
-      None ↦ λ is h.
-        let r = record-fails w (k + 1) ns f h in
-        record {
-          earlier = n ∷ r .earlier;
-          here = r .here;
-          later = r .later;
-          order = ap (λ l. n ∷ l) (r .order);
-          number = let m = r .number in omega arith;
-          passed = (passes (record-questions w n) is, r .passed);
-          fails = r .fails;
-        }
-    | Some q ↦ λ is h.
-        let same : fault q k ≡ f = cc in
-        record {
-          earlier = [];
-          here = n;
-          later = ns;
-          order = refl;
-          number = sym (ap (λ (x : Fault). x .«record») same) ∙ omega arith;
-          passed = tt;
-          fails = fails (record-questions w n) (f .question) (is ∙ ap (λ (x : Fault). Some (x .question)) same);
-        }
-    ] refl e
+  pub record-fails : (k : ℕ) (xs : List X) (f : Fault) → first-fault asks k xs ≡ Some f → Record-fails asks k xs f
+  record-fails k [] f e = absurd (grind arith)
+  record-fails k (x ∷ xs) f e =
+      elim (first-no (asks x)) as (λ o. (first-no (asks x) ≡ o) → fault-or o k (first-fault asks (k + 1) xs) ≡ Some f → Record-fails asks k (x ∷ xs) f) [
+        None ↦ λ is h.
+          let r = record-fails (k + 1) xs f h in
+          record {
+            earlier = x ∷ r .earlier;
+            here = r .here;
+            later = r .later;
+            order = ap (λ l. x ∷ l) (r .order);
+            number = let m = r .number in omega arith;
+            passed = (passes (asks x) is, r .passed);
+            fails = r .fails;
+          }
+      | Some q ↦ λ is h.
+          let same : fault q k ≡ f = cc in
+          record {
+            earlier = [];
+            here = x;
+            later = xs;
+            order = refl;
+            number = sym (ap (λ (y : Fault). y .«record») same) ∙ omega arith;
+            passed = tt;
+            fails = fails (asks x) (f .question) (is ∙ ap (λ (y : Fault). Some (y .question)) same);
+          }
+      ] refl e
+
+-- ---- a scan of records by place
+
+module _ {X : Type 0} (asks : X → List Asked) (k : ℕ) (xs : List X) (i : ℕ) where
+  module _ (d : X) (h : i < length xs) where
+    pub scan-here : (q : Question) → Some q ≡ first-no (asks (getD xs i d)) → Some (fault q k) ≡ first-fault asks k (drop i xs)
+    scan-here q e = sym (at-drop-more (first-fault asks k) xs i d h ∙ rw (← e))
+
+    pub scan-more : None ≡ first-no (asks (getD xs i d)) → first-fault asks (k + 1) (drop (i + 1) xs) ≡ first-fault asks k (drop i xs)
+    scan-more e = sym (at-drop-more (first-fault asks k) xs i d h ∙ rw (← e))
+
+  pub scan-end : length xs ≤ i → None ≡ first-fault asks k (drop i xs)
+  scan-end h = sym (at-drop-all (first-fault asks k) xs i h)
 
 -- ---- one record more, where the code has its word as n
 
 module _ (w k n : ℕ) (s : List ℕ) (long : 6 ≤ length s) (is : n ≡ word s) where
-  pub fault-here : (q : Question) → Some q ≡ first-no (record-questions w n) → Some (fault q k) ≡ first-fault w k (words s)
+  pub fault-here : (q : Question) → Some q ≡ first-no (record-questions w n) → Some (fault q k) ≡ first-fault (record-questions w) k (words s)
   fault-here q e = rw (words-step s long, ← is, ← e)
 
-  pub fault-later : None ≡ first-no (record-questions w n) → first-fault w (k + 1) (words (take (length s - 6) (drop 6 s))) ≡ first-fault w k (words s)
+  pub fault-later : None ≡ first-no (record-questions w n) → first-fault (record-questions w) (k + 1) (words (take (length s - 6) (drop 6 s))) ≡ first-fault (record-questions w) k (words s)
   fault-later e = rw (rest s, words-step s long, ← is, ← e)
 
 -- ---- the whole book
@@ -127,21 +142,21 @@ module _ (n : ℕ) (s : List ℕ) (long : 6 ≤ length s) (is : n ≡ word s) wh
     pub same-header : h ≡ header-of (word s)
     same-header = header ∙ ap header-of is
 
-    pub same-records : (o : Option Fault) → o ≡ first-fault (h .way) 1 (words (take (length s - 6) (drop 6 s))) → first-fault (way (word s)) 1 (words (drop 6 s)) ≡ o
-    same-records o e = sym (e ∙ ap (λ (x : Header). first-fault (x .way) 1 (words (take (length s - 6) (drop 6 s)))) same-header ∙ ap (λ l. first-fault (way (word s)) 1 (words l)) (rest s))
+    pub same-records : (o : Option Fault) → o ≡ first-fault (record-questions (h .way)) 1 (words (take (length s - 6) (drop 6 s))) → first-fault (record-questions (way (word s))) 1 (words (drop 6 s)) ≡ o
+    same-records o e = sym (e ∙ ap (λ (x : Header). first-fault (record-questions (x .way)) 1 (words (take (length s - 6) (drop 6 s)))) same-header ∙ ap (λ l. first-fault (record-questions (way (word s))) 1 (words l)) (rest s))
 
-    pub record-told : (f : Fault) → Some f ≡ first-fault (h .way) 1 (words (take (length s - 6) (drop 6 s))) → Told s f
+    pub record-told : (f : Fault) → Some f ≡ first-fault (record-questions (h .way)) 1 (words (take (length s - 6) (drop 6 s))) → Told s f
     record-told f e =
         let here = same-records (Some f) e in
         record {
           reads = ap (with-header s) header-passes ∙ ap (with-records (header-of (word s)) (entries (drop 6 s))) here;
-          tells = inr (passes (header-questions s) header-passes, record-fails (way (word s)) 1 (words (drop 6 s)) f here);
+          tells = inr (passes (header-questions s) header-passes, record-fails (record-questions (way (word s))) 1 (words (drop 6 s)) f here);
         }
 
-    pub book-reads : None ≡ first-fault (h .way) 1 (words (take (length s - 6) (drop 6 s))) → Read s h (entries (take (length s - 6) (drop 6 s)))
+    pub book-reads : None ≡ first-fault (record-questions (h .way)) 1 (words (take (length s - 6) (drop 6 s))) → Read s h (entries (take (length s - 6) (drop 6 s)))
     book-reads e =
         let none = same-records None e in
         record {
           reads = ap (with-header s) header-passes ∙ ap (with-records (header-of (word s)) (entries (drop 6 s))) none ∙ ap (λ (x : Header). Ok (x, entries (drop 6 s))) (sym same-header) ∙ ap (λ l. Ok (h, entries l)) (sym (rest s));
-          tells = (passes (header-questions s) header-passes, records-pass (way (word s)) 1 (words (drop 6 s)) none);
+          tells = (passes (header-questions s) header-passes, records-pass (record-questions (way (word s))) 1 (words (drop 6 s)) none);
         }

@@ -1,2 +1,5 @@
 pub mod Words
 pub mod Faults
+pub mod Fitting
+pub mod RoundTrip
+pub mod Buffers

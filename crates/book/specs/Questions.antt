@@ -54,7 +54,7 @@ abbrev pub fault-or : Option Question → ℕ → Option Fault → Option Fault
 fault-or None k later = later
 fault-or (Some q) k later = Some (fault q k)
 
--- the first fault of records, the first of which has the number k
-abbrev pub first-fault : ℕ → ℕ → List ℕ → Option Fault
-first-fault w k [] = None
-first-fault w k (n ∷ ns) = fault-or (first-no (record-questions w n)) k (first-fault w (k + 1) ns)
+-- the first fault of records, the first of which has the number k, where each is asked these questions
+abbrev pub first-fault : {X : Type 0} → (X → List Asked) → ℕ → List X → Option Fault
+first-fault asks k [] = None
+first-fault asks k (x ∷ xs) = fault-or (first-no (asks x)) k (first-fault asks (k + 1) xs)

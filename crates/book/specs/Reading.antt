@@ -16,7 +16,7 @@ use Rattle.book.specs.declared.values.Record.the-variants.{Place as PlaceAt, W
 use Rattle.book.specs.declared.fault.Question.{Question}
 use Rattle.book.specs.declared.fault.Fault.{Fault}
 use Rattle.book.specs.Format.{way, kind, header-of, placement-of, withdrawal-of, entry-of}
-use Rattle.book.specs.Questions.{header-questions, first-no, first-fault, fault}
+use Rattle.book.specs.Questions.{header-questions, record-questions, first-no, first-fault, fault}
 
 -- the words of the first n records of some bytes
 abbrev pub words-of : ℕ → List ℕ → List ℕ
@@ -36,7 +36,7 @@ with-records h es None = Ok (h, es)
 with-records h es (Some f) = Err f
 
 abbrev pub with-header : List ℕ → Option Question → Result (Header × List Entry) Fault
-with-header s None = with-records (header-of (word s)) (entries (drop 6 s)) (first-fault (way (word s)) 1 (words (drop 6 s)))
+with-header s None = with-records (header-of (word s)) (entries (drop 6 s)) (first-fault (record-questions (way (word s))) 1 (words (drop 6 s)))
 with-header s (Some q) = Err (fault q 0)
 
 -- the header and the records of a book, or its first fault

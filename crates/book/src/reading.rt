@@ -8,9 +8,10 @@ ghost use Rattle.book.specs.Format.{header-of, placement-of, withdrawal-of, en
 ghost use Rattle.book.specs.Questions.{value-questions, word-questions, header-questions, record-questions, first-no, first-fault};
 ghost use Rattle.book.specs.Reading.{words, entries, read-book, value-of, bytes-of};
 ghost use Rattle.book.specs.Laws.{Faulty, Faultless};
+ghost use Rattle.book.specs.Writing.{encode};
 ghost use Rattle.std.specs.Results.{Cases};
+ghost use Rattle.std.specs.Vec.{made};
 ghost use Rattle.std.specs.Options.{Cases as BySome};
-ghost use Rattle.std.specs.declared.option.Option.the-variants.{None};
 ghost use Rattle.std.specs.declared.result.Result.the-variants.{Ok, Err};
 use crate::fault::Fault;
 use crate::fault::Question;
@@ -20,7 +21,6 @@ use crate::values::Header;
 use crate::values::Placement;
 use crate::values::Record;
 use crate::values::Withdrawal;
-use packing::Field;
 use packing::word_of;
 
 /// Whether the values of a header may stand together.
@@ -92,7 +92,7 @@ pub(crate) fn record_no(way: u8, word: u64) -> Option<Question>
 
 /// The first fault of the records in some bytes.
 fn first_fault(way: u8, s: &[u8]) -> Option<Fault>
-    ensures { λ r. ⌜ r ≡ first-fault way 1 (words (now (s .entry))) ⌝ }
+    ensures { λ r. ⌜ r ≡ first-fault (record-questions way) 1 (words (now (s .entry))) ⌝ }
 {
     let mut rest = s;
     let mut record: usize = 1;
@@ -167,6 +167,8 @@ pub struct Book<'a> {
 pub fn open<'a>(s: &'a [u8]) -> Result<Book<'a>, Fault>
     ensures reads { λ r. ⌜ Cases r (λ b. read-book (now (s .entry)) ≡ Ok (b .header, entries (now (b .rest)))) (λ f. read-book (now (s .entry)) ≡ Err f) ⌝ }
     ensures tells { λ r. ⌜ Cases r (λ _. Faultless (now (s .entry))) (λ f. Faulty (now (s .entry)) f) ⌝ }
+    ensures only { λ r. ⌜ made r (λ b. now (s .entry) ≡ encode (b .header) (entries (now (b .rest)))) ⌝ }
+    ensures few { λ r. ⌜ made r (λ b. length (entries (now (b .rest))) < 4096) ⌝ }
 {
     let [a, b, c, d, e, f, rest @ ..] = s else {
         return Err(Fault { question: Question::SixBytes, record: 0 });

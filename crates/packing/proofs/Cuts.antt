@@ -3,7 +3,7 @@ use mathlib.Core.Path.{_≡_, refl, sym, ap, subst, _∙_}
 use mathlib.Core.List.{List, [], _∷_}
 use mathlib.Core.Logic.{inl, inr}
 use Prim.Native.Nat.{ℕ, _+_, _*_, _-_, _/_, _%_, _^_, _<_, _≤_}
-use native.Mathlib.Nat.{add-assoc, mul-assoc, add-mul, zero-mul, mod-eq-of-lt, mod-le}
+use native.Mathlib.Nat.{add-assoc, mul-assoc, add-mul, zero-mul, mod-eq-of-lt}
 use native.Mathlib.Omega.{arith}
 use lib.Dec.{ltb, eqb}
 use lib.ListN.{length, getD}
@@ -26,7 +26,7 @@ fields-cut f (w ∷ ws) n h =
     let others = fields-cut (f + w) ws n (omega arith) in
     cc
 
-pub pack-lt : (ws vs : List ℕ) → Fit ws vs → pack ws vs < 2 ^ width ws
+pack-lt : (ws vs : List ℕ) → Fit ws vs → pack ws vs < 2 ^ width ws
 pack-lt [] [] h = omega arith
 pack-lt [] (v ∷ vs) h = absurd h
 pack-lt (w ∷ ws) [] h = absurd h
@@ -97,21 +97,3 @@ lowest-whole n w r e =
       inl lt ↦ eq-eqb r n (e ∙ mod-eq-of-lt lt) ∙ sym (lt-ltb n (2 ^ w) lt)
     | inr ge ↦ let below = mod-below n (2 ^ w) (pow-pos w) in ne-eqb r n (omega arith) ∙ sym (le-ltb n (2 ^ w) ge)
     ]
-
--- what is embedded in a field does not wrap
-pub embed-lt : (n f w : ℕ) → n < 2 ^ 64 → (n % 2 ^ w) * 2 ^ (48 - f - w) < 2 ^ 64
-embed-lt n f w h =
-    elim (cases-lt 48 w) [
-      inl wide ↦
-        let s : 48 - f - w ≡ 0 = omega arith in
-        let below = mod-le n (2 ^ w) in
-        rw s (omega arith)
-    | inr narrow ↦
-        let below = mul-add-lt (n % 2 ^ w) (2 ^ (48 - f - w)) 0 (2 ^ w) (mod-below n (2 ^ w) (pow-pos w)) (pow-pos (48 - f - w)) in
-        let joined = pow-add 2 (48 - f - w) w in
-        let most = pow-mono {i = 48 - f - w + w} {j = 48} (omega arith) in
-        omega arith
-    ]
-
-pub embedded : (n f w r s : ℕ) → n < 2 ^ 64 → r ≡ n % 2 ^ w → s ≡ 48 - f - w → r * 2 ^ s % 2 ^ 64 ≡ n % 2 ^ w * 2 ^ (48 - f - w)
-embedded n f w r s h e b = rw (e, b) (mod-eq-of-lt (embed-lt n f w h))

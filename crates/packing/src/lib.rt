@@ -41,11 +41,11 @@ impl Field {
         self.lowest(word >> self.behind())
     }
 
-    /// The word with the lowest bits of a value in this field, and zeros elsewhere.
+    /// A value moved to the field's place in an empty word; bits past the 64th are lost.
     pub fn embed(self, value: u64) -> u64
-        ensures { λ r. ⌜ r ≡ value % 2 ^ self .width * 2 ^ (48 - self .first - self .width) ⌝ }
+        ensures { λ r. ⌜ r ≡ value * 2 ^ (48 - self .first - self .width) % 2 ^ 64 ⌝ }
     {
-        self.lowest(value) << self.behind()
+        value << self.behind()
     }
 
     /// Whether a value fits the field.
