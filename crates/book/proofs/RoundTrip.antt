@@ -9,7 +9,7 @@ use lib.ListN.{length, getD, take, drop}
 use lib.Seq.{getD-drop}
 use Rattle.std.specs.Joined.{joined}
 use Rattle.std.specs.shelf.Lists.{All}
-use Rattle.std.proofs.shelf.Lists.{length-drop, length-map, take-at}
+use Rattle.std.proofs.shelf.Lists.{length-drop, take-at}
 use Rattle.std.proofs.shelf.Tests.{leb-true, eqb-true, le-leb}
 use Rattle.std.specs.declared.result.Result.{Result}
 use Rattle.std.specs.declared.result.Result.the-variants.{Ok, Err}
@@ -24,10 +24,10 @@ use Rattle.book.specs.declared.fault.Question.the-variants.{SixBytes, Fit, Roo
 use Rattle.book.specs.declared.fault.Fault.{Fault}
 use Rattle.book.specs.Format.{way, count, header-of, entry-of}
 use Rattle.book.specs.Questions.{header-questions, word-questions, value-questions, record-questions, first-no, fault, fault-or, first-fault}
-use Rattle.book.specs.Reading.{words-of, words, entries, with-records, with-header, read-book}
+use Rattle.book.specs.Reading.{words, entries, with-records, with-header, read-book}
 use Rattle.book.specs.Writing.{header-word, entry-word, entry-bytes, encode, book-length, header-fits, entry-fits, fit-questions, read-questions, or-else, fault-of, write-fault}
 use Rattle.book.specs.Laws.{Passes, Bytes, Written-reads-back, Read-is-only-writing}
-use Rattle.book.proofs.Words.{words-step}
+use Rattle.book.proofs.Words.{words-step, length-entries}
 use Rattle.book.proofs.Faults.{passes, records-pass, header-asks}
 use Rattle.book.proofs.Fitting.{entry-small, entry-back, word-back, header-small, header-back, header-asked, header-word-back, count-small}
 
@@ -131,10 +131,6 @@ written-reads-back h es len none =
 
 -- ---- what reads is the only writing
 
-length-words : (n : ℕ) (s : List ℕ) → length (words-of n s) ≡ n
-length-words zero s = refl
-length-words (suc n) s = ap suc (length-words n (drop 6 s))
-
 front-drop : (s : List ℕ) → 6 ≤ length s → front s ++ drop 6 s ≡ s
 front-drop [] h = absurd (omega arith)
 front-drop (a ∷ []) h = absurd (omega arith)
@@ -195,7 +191,7 @@ module _ (s : List ℕ) (h : Header) (es : List Entry) (small : Bytes s) (r : Re
   pub count-ok : length es ≡ count (word s)
   count-ok =
       let n : length (drop 6 s) / 6 ≡ count (word s) = rw length-drop (omega (arith, length-ok)) in
-      ap length (sym (r .all)) ∙ length-map (words (drop 6 s)) entry-of ∙ length-words (length (drop 6 s) / 6) (drop 6 s) ∙ n
+      ap length (sym (r .all)) ∙ length-entries (drop 6 s) ∙ n
 
   pub header-only : header-word h (length es) ≡ word s
   header-only =

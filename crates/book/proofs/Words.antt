@@ -1,10 +1,10 @@
 -- The records of some bytes, one after the other.
 use mathlib.Core.Path.{_≡_, refl, sym, ap, _∙_}
 use mathlib.Core.List.{List, [], _∷_}
-use Prim.Native.Nat.{ℕ, suc, _≤_, _<_, _+_, _-_, _/_}
+use Prim.Native.Nat.{ℕ, zero, suc, _≤_, _<_, _+_, _-_, _/_}
 use native.Mathlib.Omega.{arith}
 use lib.ListN.{length, getD, drop, take}
-use Rattle.std.proofs.shelf.Lists.{length-drop, take-rest, getD-take}
+use Rattle.std.proofs.shelf.Lists.{length-drop, length-map, take-rest, getD-take}
 use Rattle.packing.specs.Fields.{word}
 use Rattle.book.specs.declared.values.Entry.{Entry}
 use Rattle.book.specs.Format.{entry-of}
@@ -32,3 +32,10 @@ entries-step s x h e =
     let same = word-take s in
     let part = rest s in
     cc
+
+length-words : (n : ℕ) (s : List ℕ) → length (words-of n s) ≡ n
+length-words zero s = refl
+length-words (suc n) s = ap suc (length-words n (drop 6 s))
+
+pub length-entries : (s : List ℕ) → length (entries s) ≡ length s / 6
+length-entries s = length-map (words s) entry-of ∙ length-words (length s / 6) s

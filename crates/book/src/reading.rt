@@ -192,6 +192,13 @@ impl<'a> Book<'a> {
         self.header
     }
 
+    /// How many records are still to be handed out.
+    pub fn len(&self) -> usize
+        ensures { λ r. ⌜ r ≡ length (entries (now (now (self .entry) .rest))) ⌝ }
+    {
+        self.rest.len() / SIX
+    }
+
     /// Hands out the next record.
     pub fn next(&mut self) -> Option<Record<'a>>
         ensures same { λ _. ⌜ now (self .exit) .header ≡ now (self .entry) .header ⌝ }
