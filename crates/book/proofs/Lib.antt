@@ -3,3 +3,4 @@ pub mod Faults
 pub mod Fitting
 pub mod RoundTrip
 pub mod Buffers
+pub mod Fronts

@@ -22,14 +22,15 @@ words-short s h = let e : length s / 6 ≡ 0 = omega arith in ap (λ n. words-of
 pub rest : (s : List ℕ) → take (length s - 6) (drop 6 s) ≡ drop 6 s
 rest s = take-rest s 6
 
-word-take : (s : List ℕ) → word (take 6 s) ≡ word s
-word-take s =
-    rw (getD-take 6 s 0 0 (omega arith), getD-take 6 s 1 0 (omega arith), getD-take 6 s 2 0 (omega arith), getD-take 6 s 3 0 (omega arith), getD-take 6 s 4 0 (omega arith), getD-take 6 s 5 0 (omega arith))
+-- the first six bytes stay where more is cut off
+pub word-take : (n : ℕ) (s : List ℕ) → 6 ≤ n → word (take n s) ≡ word s
+word-take n s h =
+    rw (getD-take n s 0 0 (omega arith), getD-take n s 1 0 (omega arith), getD-take n s 2 0 (omega arith), getD-take n s 3 0 (omega arith), getD-take n s 4 0 (omega arith), getD-take n s 5 0 (omega arith))
 
 pub entries-step : (s : List ℕ) (x : Entry) → 6 ≤ length s → x ≡ entry-of (word (take 6 s)) → entries s ≡ x ∷ entries (take (length s - 6) (drop 6 s))
 entries-step s x h e =
     let first = words-step s h in
-    let same = word-take s in
+    let same = word-take 6 s (omega arith) in
     let part = rest s in
     cc
 

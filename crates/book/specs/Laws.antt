@@ -4,7 +4,7 @@ use mathlib.Core.List.{List, _∷_, _++_}
 use mathlib.Core.Bool.{true, false}
 use mathlib.Core.Logic.{_⊎_}
 use Prim.Native.Nat.{ℕ, _+_, _<_}
-use lib.ListN.{length, getD, drop}
+use lib.ListN.{length, getD, take, drop}
 use Rattle.std.specs.shelf.Lists.{All}
 use Rattle.std.specs.declared.option.Option.the-variants.{None}
 use Rattle.std.specs.declared.result.Result.the-variants.{Ok}
@@ -62,3 +62,9 @@ Written-reads-back = (h : Header) (es : List Entry) (len : ℕ) → write-fault 
 -- bytes that read are the only writing of what they read as
 abbrev pub Read-is-only-writing : Type 0
 Read-is-only-writing = (s : List ℕ) (h : Header) (es : List Entry) → Bytes s → read-book s ≡ Ok (h, es) → s ≡ encode h es
+
+-- ---- how much of an input has to be read
+
+-- one byte more than the longest book decides, whatever lies behind it
+abbrev pub Front-is-enough : Type 0
+Front-is-enough = (s : List ℕ) (n : ℕ) → 24576 < n → read-book (take n s) ≡ read-book s

@@ -4,8 +4,8 @@ use packing::Field;
 /// The bytes of the header, and of each record.
 pub const SIX: usize = 6;
 
-/// The most records that the count's 12 bits can tell.
-pub const MOST_RECORDS: usize = 4095;
+/// The bytes of the longest book: a header and 4,095 records, the most that the count's 12 bits can tell.
+pub const LONGEST_BOOK: usize = 24_576;
 
 /// The one form of book that there is.
 pub const FORM_OF_BOOKS: u64 = 1;

@@ -19,7 +19,7 @@ use std::alloc::Global;
 use std::fmt;
 
 /// The name of a way.
-pub fn way_name(way: u8) -> &'static str
+fn way_name(way: u8) -> &'static str
     ensures { λ r. ⌜ now r ≡ way-name way ⌝ }
 {
     match way {
@@ -34,7 +34,7 @@ pub fn way_name(way: u8) -> &'static str
 }
 
 /// The name of a sharing.
-pub fn sharing_name(sharing: u8) -> &'static str
+fn sharing_name(sharing: u8) -> &'static str
     ensures { λ r. ⌜ now r ≡ sharing-name sharing ⌝ }
 {
     match sharing {
@@ -46,7 +46,7 @@ pub fn sharing_name(sharing: u8) -> &'static str
 }
 
 /// The name of a side.
-pub fn side_name(side: u8) -> &'static str
+fn side_name(side: u8) -> &'static str
     ensures { λ r. ⌜ now r ≡ side-name side ⌝ }
 {
     match side {
@@ -57,7 +57,7 @@ pub fn side_name(side: u8) -> &'static str
 }
 
 /// The name of an order's kind.
-pub fn kind_name(kind: u8) -> &'static str
+fn kind_name(kind: u8) -> &'static str
     ensures { λ r. ⌜ now r ≡ kind-name kind ⌝ }
 {
     match kind {
@@ -69,7 +69,7 @@ pub fn kind_name(kind: u8) -> &'static str
 }
 
 /// A question in words.
-pub fn wording_of(question: Question) -> &'static str
+fn wording_of(question: Question) -> &'static str
     ensures { λ r. ⌜ now r ≡ wording question ⌝ }
 {
     match question {
@@ -168,8 +168,7 @@ fn append_records(out: &mut String, book: Book, first: usize) -> Result<(), Allo
     Ok(())
 }
 
-/// The listing of a book: its header and its records in words, or its fault.
-pub fn listing(heap: Global, bytes: &[u8]) -> Result<String, AllocError>
+fn listed(heap: Global, bytes: &[u8]) -> Result<String, AllocError>
     ensures { λ r. ⌜ made r (λ text. string-bytes text ≡ listing-of (now (bytes .entry))) ⌝ }
 {
     let mut out = String::new(heap);
@@ -181,4 +180,13 @@ pub fn listing(heap: Global, bytes: &[u8]) -> Result<String, AllocError>
         Err(fault) => append_fault(&mut out, fault)?,
     }
     Ok(out)
+}
+
+/// The listing of a book: its header and its records in words, or its fault.
+///
+/// `bytes` may be the front of a longer input: one byte more than the longest book is enough.
+pub fn listing(heap: Global, bytes: &[u8]) -> Result<String, AllocError>
+    ensures { λ r. ⌜ ((input : List ℕ) → now (bytes .entry) ≡ take 24577 input → made r (λ text. string-bytes text ≡ listing-of input)) ⌝ }
+{
+    listed(heap, bytes)
 }
