@@ -92,7 +92,7 @@ def lines(book):
 
 def shown(book):
     try:
-        return "".join(line + "\n" for line in lines(book))
+        return "".join(line + "\n" for line in lines(book)) + "written alike: true\n"
     except Fault as fault:
         number, k = fault.args
         return f"FAULT {number} {k}\nfault {number} in record {k}: {QUESTIONS[number]}\n"

@@ -1,6 +1,6 @@
-use mathlib.Core.Path.{sym}
+use borrow.Author.Needs.{needs}
 use Rattle.book.proofs.Words.{length-entries}
 use Rattle.book.proofs.reading.Book.len.Needs as need
 
 pub returns : need.returns
-returns c = sym (length-entries (c .args .self .now .rest .now))
+returns c = search (needs, length-entries)
