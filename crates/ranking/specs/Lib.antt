@@ -1,0 +1,4 @@
+pub mod Laws
+pub mod Best
+pub mod Orders
+pub mod Lines
