@@ -25,7 +25,7 @@ put-more head was out es i at d six h six-is head-long at-is room e =
     let rest-is : drop at out ≡ drop at was = ap (drop at) e ∙ drop-at done (drop at was) at long in
     let behind-is : drop (at + 6) out ≡ drop (at + 6) was = sym (drop-drop 6 at out) ∙ ap (drop 6) rest-is ∙ drop-drop 6 at was in
     let grown : done ++ six ≡ head ++ joined entry-bytes (take (i + 1) es) =
-        ap (λ (l : List ℕ). done ++ l) six-is ∙ joined-more entry-bytes head (take i es) (getD es i d) ∙ ap (λ (l : List Entry). head ++ joined entry-bytes l) (sym (take-more es i d h)) in
+    ap (λ (l : List ℕ). done ++ l) six-is ∙ joined-more entry-bytes head (take i es) (getD es i d) ∙ ap (λ (l : List Entry). head ++ joined entry-bytes l) (sym (take-more es i d h)) in
     (λ j. front-is j ++ (six ++ behind-is j)) ∙ sym (append-assoc done six (drop (at + 6) was)) ∙ ap (λ (l : List ℕ). l ++ drop (at + 6) was) grown
 
 -- all records: `old` is the buffer as it was lent
@@ -34,6 +34,6 @@ put-done head was old out es i at head-long was-is all at-is e =
     let head-is : take 6 was ≡ head = ap (take 6) was-is ∙ take-at head (drop 6 old) 6 head-long in
     let rest-is : drop 6 was ≡ drop 6 old = ap (drop 6) was-is ∙ drop-at head (drop 6 old) 6 head-long in
     let behind-is : drop at was ≡ drop (book-length es) old =
-        ap (λ (m : ℕ). drop m was) at-is ∙ sym (drop-drop (6 * length es) 6 was) ∙ ap (drop (6 * length es)) rest-is ∙ drop-drop (6 * length es) 6 old in
+    ap (λ (m : ℕ). drop m was) at-is ∙ sym (drop-drop (6 * length es) 6 was) ∙ ap (drop (6 * length es)) rest-is ∙ drop-drop (6 * length es) 6 old in
     let whole = take-all i es all in
     e ∙ (λ j. (head-is j ++ joined entry-bytes (whole j)) ++ behind-is j)

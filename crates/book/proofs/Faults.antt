@@ -29,8 +29,8 @@ pub passes : (asked : List Asked) → first-no asked ≡ None → Passes asked
 passes [] e = tt
 passes (a ∷ later) e =
     elim (a .1) as (λ b. cond b (first-no later) (Some (a .0)) ≡ None → (b ≡ true) × Passes later) [
-      true ↦ λ h. (refl, passes later h)
-    | false ↦ λ h. absurd (grind arith)
+      | true ↦ λ h. (refl, passes later h)
+      | false ↦ λ h. absurd (grind arith)
     ] e
 
 fails-after : (a : Asked) (later : List Asked) (q : Question) → a .1 ≡ true → Fails later q → Fails (a ∷ later) q
@@ -41,11 +41,11 @@ pub fails : (asked : List Asked) (q : Question) → first-no asked ≡ Some q �
 fails [] q e = absurd (grind arith)
 fails (a ∷ later) q e =
     elim (a .1) as (λ b. (a .1 ≡ b) → cond b (first-no later) (Some (a .0)) ≡ Some q → Fails (a ∷ later) q) [
-      true ↦ λ is h. fails-after a later q is (fails later q h)
-    | false ↦ λ is h.
-        let same : a .0 ≡ q = cc in
-        let pair : a ≡ (q, false) = rw (← same, ← is) in
-        record { earlier = []; later = later; order = ap (λ x. x ∷ later) pair; passed = tt }
+      | true ↦ λ is h. fails-after a later q is (fails later q h)
+      | false ↦ λ is h.
+          let same : a .0 ≡ q = cc in
+          let pair : a ≡ (q, false) = rw (← same, ← is) in
+          record { earlier = []; later = later; order = ap (λ x. x ∷ later) pair; passed = tt }
     ] refl e
 
 module _ {X : Type 0} (asks : X → List Asked) where
@@ -53,36 +53,36 @@ module _ {X : Type 0} (asks : X → List Asked) where
   records-pass k [] e = tt
   records-pass k (x ∷ xs) e =
       elim (first-no (asks x)) as (λ o. (first-no (asks x) ≡ o) → fault-or o k (first-fault asks (k + 1) xs) ≡ None → All (λ (y : X). Passes (asks y)) (x ∷ xs)) [
-        None ↦ λ is h. (passes (asks x) is, records-pass (k + 1) xs h)
-      | Some q ↦ λ is h. absurd (grind arith)
+        | None ↦ λ is h. (passes (asks x) is, records-pass (k + 1) xs h)
+        | Some q ↦ λ is h. absurd (grind arith)
       ] refl e
 
   pub record-fails : (k : ℕ) (xs : List X) (f : Fault) → first-fault asks k xs ≡ Some f → Record-fails asks k xs f
   record-fails k [] f e = absurd (grind arith)
   record-fails k (x ∷ xs) f e =
       elim (first-no (asks x)) as (λ o. (first-no (asks x) ≡ o) → fault-or o k (first-fault asks (k + 1) xs) ≡ Some f → Record-fails asks k (x ∷ xs) f) [
-        None ↦ λ is h.
-          let r = record-fails (k + 1) xs f h in
-          record {
-            earlier = x ∷ r .earlier;
-            here = r .here;
-            later = r .later;
-            order = ap (λ l. x ∷ l) (r .order);
-            number = let m = r .number in omega arith;
-            passed = (passes (asks x) is, r .passed);
-            fails = r .fails;
-          }
-      | Some q ↦ λ is h.
-          let same : fault q k ≡ f = cc in
-          record {
-            earlier = [];
-            here = x;
-            later = xs;
-            order = refl;
-            number = sym (ap (λ (y : Fault). y .«record») same) ∙ omega arith;
-            passed = tt;
-            fails = fails (asks x) (f .question) (is ∙ ap (λ (y : Fault). Some (y .question)) same);
-          }
+        | None ↦ λ is h.
+            let r = record-fails (k + 1) xs f h in
+            record {
+              earlier = x ∷ r .earlier;
+              here = r .here;
+              later = r .later;
+              order = ap (λ l. x ∷ l) (r .order);
+              number = let m = r .number in omega arith;
+              passed = (passes (asks x) is, r .passed);
+              fails = r .fails;
+            }
+        | Some q ↦ λ is h.
+            let same : fault q k ≡ f = cc in
+            record {
+              earlier = [];
+              here = x;
+              later = xs;
+              order = refl;
+              number = sym (ap (λ (y : Fault). y .«record») same) ∙ omega arith;
+              passed = tt;
+              fails = fails (asks x) (f .question) (is ∙ ap (λ (y : Fault). Some (y .question)) same);
+            }
       ] refl e
 
 -- ---- a scan of records by place

@@ -66,8 +66,8 @@ word-back w n small p =
     ⊎-elim
     (λ a. ap (λ k. entry-word (entry-by k n)) (a .0) ∙ (λ i. pack (entry-widths (Place (placement-of n))) (sym (a .0) i ∷ field 2 1 n ∷ field 3 2 n ∷ field 5 6 n ∷ field 11 11 n ∷ field 22 20 n ∷ sym (a .1) i ∷ [])) ∙ fields-give-the-word (entry-widths (Place (placement-of n))) n refl small)
     (⊎-elim
-      (λ a. ap (λ k. entry-word (entry-by k n)) (a .0) ∙ (λ i. pack (entry-widths (Withdraw (withdrawal-of n))) (sym (a .0) i ∷ field 2 6 n ∷ field 8 9 n ∷ sym (a .1) i ∷ [])) ∙ fields-give-the-word (entry-widths (Withdraw (withdrawal-of n))) n refl small)
-      (λ a. ap (λ k. entry-word (entry-by k n)) (a .0) ∙ (λ i. pack (entry-widths Round) (sym (a .0) i ∷ sym (a .1) i ∷ [])) ∙ fields-give-the-word (entry-widths Round) n refl small))
+    (λ a. ap (λ k. entry-word (entry-by k n)) (a .0) ∙ (λ i. pack (entry-widths (Withdraw (withdrawal-of n))) (sym (a .0) i ∷ field 2 6 n ∷ field 8 9 n ∷ sym (a .1) i ∷ [])) ∙ fields-give-the-word (entry-widths (Withdraw (withdrawal-of n))) n refl small)
+    (λ a. ap (λ k. entry-word (entry-by k n)) (a .0) ∙ (λ i. pack (entry-widths Round) (sym (a .0) i ∷ sym (a .1) i ∷ [])) ∙ fields-give-the-word (entry-widths Round) n refl small))
     (kinds w n p)
 
 -- ---- the header

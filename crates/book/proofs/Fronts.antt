@@ -32,16 +32,16 @@ module _ (n a b : ℕ) (long : 24576 < a) (also : 24576 < b) where
 pub front-is-enough : Front-is-enough
 front-is-enough s n more =
     elim (cases-lt n (length s)) [
-      inr all ↦ ap read-book (take-all n s all)
-    | inl cut ↦
-        let l : length (take n s) ≡ n = length-take-le n s (omega arith) in
-        let here = header-asks (word s) s (omega arith) refl in
-        let front : first-no (word-questions (word s) n) ≡ first-no (header-questions (take n s)) = ap (λ m. first-no (word-questions (word s) m)) (sym l) ∙ header-asks (word s) (take n s) (omega arith) (sym (word-take n s (omega arith))) in
-        let asked : first-no (header-questions (take n s)) ≡ first-no (header-questions s) = sym front ∙ lengths-alike (word s) n (length s) more (omega arith) ∙ here in
-        ap (with-header (take n s)) asked
-        ∙ elim (first-no (header-questions s)) as (λ o. (first-no (header-questions s) ≡ o) → with-header (take n s) o ≡ with-header s o) [
-            None ↦ λ is. absurd (some-no (word s) (length s) n (omega arith) more (here ∙ is))
-          | Some q ↦ λ is. refl
+      | inr all ↦ ap read-book (take-all n s all)
+      | inl cut ↦
+          let l : length (take n s) ≡ n = length-take-le n s (omega arith) in
+          let here = header-asks (word s) s (omega arith) refl in
+          let front : first-no (word-questions (word s) n) ≡ first-no (header-questions (take n s)) = ap (λ m. first-no (word-questions (word s) m)) (sym l) ∙ header-asks (word s) (take n s) (omega arith) (sym (word-take n s (omega arith))) in
+          let asked : first-no (header-questions (take n s)) ≡ first-no (header-questions s) = sym front ∙ lengths-alike (word s) n (length s) more (omega arith) ∙ here in
+          ap (with-header (take n s)) asked
+          ∙ elim (first-no (header-questions s)) as (λ o. (first-no (header-questions s) ≡ o) → with-header (take n s) o ≡ with-header s o) [
+            | None ↦ λ is. absurd (some-no (word s) (length s) n (omega arith) more (here ∙ is))
+            | Some q ↦ λ is. refl
           ] refl
     ]
 

@@ -118,8 +118,8 @@ passed h es len none =
 reads-by : (h : Header) (es : List Entry) (o : Option Question) → fault-of (read-by h es o) ≡ None → read-by h es o ≡ Ok (h, es)
 reads-by h es None e =
     elim (first-fault (read-questions (h .way)) 1 es) as (λ o. fault-of (with-records h es o) ≡ None → with-records h es o ≡ Ok (h, es)) [
-      None ↦ λ z. refl
-    | Some f ↦ λ z. absurd (grind arith)
+      | None ↦ λ z. refl
+      | Some f ↦ λ z. absurd (grind arith)
     ] e
 reads-by h es (Some q) e = absurd (grind arith)
 
@@ -175,10 +175,10 @@ reads-records x h all es (Some f) e = absurd (grind arith)
 reads-parts : (s : List ℕ) (h : Header) (es : List Entry) → read-book s ≡ Ok (h, es) → Reads s h es
 reads-parts s h es e =
     elim (first-no (header-questions s)) as (λ o. (first-no (header-questions s) ≡ o) → with-header s o ≡ Ok (h, es) → Reads s h es) [
-      None ↦ λ is r.
-        let p = reads-records (header-of (word s)) h (entries (drop 6 s)) es (first-fault (record-questions (way (word s))) 1 (words (drop 6 s))) r in
-        record { asked = is; records = p .0; header = p .1; all = p .2 }
-    | Some q ↦ λ is r. absurd (grind arith)
+      | None ↦ λ is r.
+          let p = reads-records (header-of (word s)) h (entries (drop 6 s)) es (first-fault (record-questions (way (word s))) 1 (words (drop 6 s))) r in
+          record { asked = is; records = p .0; header = p .1; all = p .2 }
+      | Some q ↦ λ is r. absurd (grind arith)
     ] refl e
 
 module _ (s : List ℕ) (h : Header) (es : List Entry) (small : Bytes s) (r : Reads s h es) where
@@ -201,7 +201,7 @@ module _ (s : List ℕ) (h : Header) (es : List Entry) (small : Bytes s) (r : Re
   only =
       let first : bytes (header-word h (length es)) ≡ front s = ap bytes header-only ∙ bytes-front s small in
       let others : joined entry-bytes es ≡ drop 6 s =
-          ap (joined entry-bytes) (sym (r .all)) ∙ records-only (way (word s)) (count (word s)) (drop 6 s) (small-drop s small) (rw length-drop (omega (arith, length-ok))) (records-pass (record-questions (way (word s))) 1 (words (drop 6 s)) (r .records)) in
+      ap (joined entry-bytes) (sym (r .all)) ∙ records-only (way (word s)) (count (word s)) (drop 6 s) (small-drop s small) (rw length-drop (omega (arith, length-ok))) (records-pass (record-questions (way (word s))) 1 (words (drop 6 s)) (r .records)) in
       sym ((λ i. first i ++ others i) ∙ front-drop s (omega (arith, length-ok)))
 
 pub read-is-only-writing : Read-is-only-writing

@@ -6,6 +6,7 @@ mod layout;
 mod reading;
 mod values;
 mod writing;
+
 pub use fault::Fault;
 pub use fault::Question;
 pub use layout::LONGEST_BOOK;

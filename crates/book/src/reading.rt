@@ -87,7 +87,11 @@ pub(crate) fn record_no(way: u8, word: u64) -> Option<Question>
         2 if way < 5 => ROUND_SPARE.cut(word),
         _ => return Some(Question::Kind),
     };
-    if spare == 0 { None } else { Some(Question::RecordSpare) }
+    if spare == 0 {
+        None
+    } else {
+        Some(Question::RecordSpare)
+    }
 }
 
 /// The first fault of the records in some bytes.
@@ -171,11 +175,17 @@ pub fn open<'a>(s: &'a [u8]) -> Result<Book<'a>, Fault>
     ensures few { λ r. ⌜ made r (λ b. length (entries (now (b .rest))) < 4096) ⌝ }
 {
     let [a, b, c, d, e, f, rest @ ..] = s else {
-        return Err(Fault { question: Question::SixBytes, record: 0 });
+        return Err(Fault {
+            question: Question::SixBytes,
+            record: 0,
+        });
     };
     let word = word_of(&[*a, *b, *c, *d, *e, *f]);
     if let Some(question) = word_no(word, s.len()) {
-        return Err(Fault { question, record: 0 });
+        return Err(Fault {
+            question,
+            record: 0,
+        });
     }
     let header = header_of(word);
     match first_fault(header.way, rest) {

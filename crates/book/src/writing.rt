@@ -98,7 +98,11 @@ fn header_word(h: Header, count: usize) -> u64
 fn fit_no(entry: Entry) -> Option<Question>
     ensures { λ r. ⌜ r ≡ first-no (fit-questions entry) ⌝ }
 {
-    if entry_fits(entry) { None } else { Some(Question::Fit) }
+    if entry_fits(entry) {
+        None
+    } else {
+        Some(Question::Fit)
+    }
 }
 
 fn read_no(way: u8, entry: Entry) -> Option<Question>
@@ -113,7 +117,10 @@ fn first_unfit(entries: &[Entry]) -> Option<Fault>
 {
     for (i, entry) in entries.iter().enumerate() {
         if let Some(question) = fit_no(*entry) {
-            return Some(Fault { question, record: i + 1 });
+            return Some(Fault {
+                question,
+                record: i + 1,
+            });
         }
     }
     None
@@ -125,7 +132,10 @@ fn first_unread(way: u8, entries: &[Entry]) -> Option<Fault>
 {
     for (i, entry) in entries.iter().enumerate() {
         if let Some(question) = read_no(way, *entry) {
-            return Some(Fault { question, record: i + 1 });
+            return Some(Fault {
+                question,
+                record: i + 1,
+            });
         }
     }
     None
@@ -136,16 +146,25 @@ fn write_fault(header: Header, entries: &[Entry], len: usize) -> Option<Fault>
     ensures { λ r. ⌜ r ≡ write-fault header (now (entries .entry)) len ⌝ }
 {
     if !header_fits(header, entries.len()) {
-        return Some(Fault { question: Question::Fit, record: 0 });
+        return Some(Fault {
+            question: Question::Fit,
+            record: 0,
+        });
     }
     if let Some(fault) = first_unfit(entries) {
         return Some(fault);
     }
     if len < SIX + SIX * entries.len() {
-        return Some(Fault { question: Question::Room, record: 0 });
+        return Some(Fault {
+            question: Question::Room,
+            record: 0,
+        });
     }
     if let Some(question) = values_no(header.way, header.sharing, header.reference) {
-        return Some(Fault { question, record: 0 });
+        return Some(Fault {
+            question,
+            record: 0,
+        });
     }
     first_unread(header.way, entries)
 }

@@ -43,7 +43,10 @@ impl<'a> TickTest for Trades<'a> as TradesTest {
 
     fn passes(&self, tick: u16) -> bool {
         match Tick::new(tick) {
-            Some(tick) => self.figures.demand_at(tick).min(self.figures.supply_at(tick)) == self.volume,
+            Some(tick) => self.figures
+                .demand_at(tick)
+                .min(self.figures.supply_at(tick))
+                == self.volume,
             None => 0 == self.volume,
         }
     }
@@ -138,9 +141,24 @@ fn price_of_one_pair() -> u16 {
 /// The place of the best of three buys, two of which have one limit.
 fn best_of_three() -> Option<usize> {
     let orders = [
-        OrderFields { number: 1, limit: 280, placed: 900, left: 900 },
-        OrderFields { number: 2, limit: 300, placed: 900, left: 500 },
-        OrderFields { number: 3, limit: 300, placed: 800, left: 800 },
+        OrderFields {
+            number: 1,
+            limit: 280,
+            placed: 900,
+            left: 900,
+        },
+        OrderFields {
+            number: 2,
+            limit: 300,
+            placed: 900,
+            left: 500,
+        },
+        OrderFields {
+            number: 3,
+            limit: 300,
+            placed: 800,
+            left: 800,
+        },
     ];
     best_order::<LimitQuote<Buying, LargerLeft>>(&orders)
 }
@@ -152,7 +170,9 @@ fn main(rt: LibcRuntime) -> io::Result<()> {
     SmallestFirst.share(20_000, &mut group);
     let [first, second, third] = group;
     println!(rt, "shares {first} {second} {third}")?;
-    let pair = ThirdOfTheWay.price(Tick { value: 300 }, Tick { value: 240 }, true).value();
+    let pair = ThirdOfTheWay
+        .price(Tick { value: 300 }, Tick { value: 240 }, true)
+        .value();
     println!(rt, "pair price {pair}")?;
     if let Some(place) = best_of_three() {
         println!(rt, "best buy at place {place}")?;

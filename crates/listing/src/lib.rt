@@ -139,7 +139,10 @@ fn append_record(out: &mut String, number: usize, entry: Entry) -> Result<(), Al
             let member = p.member;
             let limit = p.limit;
             let quantity = p.quantity;
-            write!(out, "{number} place: {side}, {kind}, member {member}, limit {limit}, quantity {quantity}\n")
+            write!(
+                out,
+                "{number} place: {side}, {kind}, member {member}, limit {limit}, quantity {quantity}\n"
+            )
         }
         Entry::Withdraw(w) => {
             let member = w.member;

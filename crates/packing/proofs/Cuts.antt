@@ -42,11 +42,11 @@ cut-above [] (v ∷ vs) k h = absurd h
 cut-above (w ∷ ws) [] k h = absurd h
 cut-above (w ∷ ws) (v ∷ vs) k h =
     let again : k * 2 ^ (w + width ws) + (v * 2 ^ width ws + pack ws vs) ≡ (k * 2 ^ w + v) * 2 ^ width ws + pack ws vs =
-        rw (pow-add 2 w (width ws), add-mul (k * 2 ^ w) v (2 ^ width ws)) (rw (mul-assoc, add-assoc)) in
+    rw (pow-add 2 w (width ws), add-mul (k * 2 ^ w) v (2 ^ width ws)) (rw (mul-assoc, add-assoc)) in
     let first : (k * 2 ^ (w + width ws) + (v * 2 ^ width ws + pack ws vs)) / 2 ^ width ws % 2 ^ w ≡ v =
-        rw (again, shr-high (k * 2 ^ w + v) (width ws) (pack ws vs) (pack-lt ws vs (h .1)), mod-low k w v (h .0)) in
+    rw (again, shr-high (k * 2 ^ w + v) (width ws) (pack ws vs) (pack-lt ws vs (h .1)), mod-low k w v (h .0)) in
     let others : cut ws (k * 2 ^ (w + width ws) + (v * 2 ^ width ws + pack ws vs)) ≡ vs =
-        rw again (cut-above ws vs (k * 2 ^ w + v) (h .1)) in
+    rw again (cut-above ws vs (k * 2 ^ w + v) (h .1)) in
     cc
 
 cut-pack : (ws vs : List ℕ) → Fit ws vs → cut ws (pack ws vs) ≡ vs
@@ -94,6 +94,6 @@ mod-wide n w h wide = let more = pow-mono {i = 64} {j = w} wide in let lt : n < 
 pub lowest-whole : (n w r : ℕ) → r ≡ n % 2 ^ w → eqb r n ≡ ltb n (2 ^ w)
 lowest-whole n w r e =
     elim (cases-lt n (2 ^ w)) [
-      inl lt ↦ eq-eqb r n (e ∙ mod-eq-of-lt lt) ∙ sym (lt-ltb n (2 ^ w) lt)
-    | inr ge ↦ let below = mod-below n (2 ^ w) (pow-pos w) in ne-eqb r n (omega arith) ∙ sym (le-ltb n (2 ^ w) ge)
+      | inl lt ↦ eq-eqb r n (e ∙ mod-eq-of-lt lt) ∙ sym (lt-ltb n (2 ^ w) lt)
+      | inr ge ↦ let below = mod-below n (2 ^ w) (pow-pos w) in ne-eqb r n (omega arith) ∙ sym (le-ltb n (2 ^ w) ge)
     ]

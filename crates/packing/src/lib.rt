@@ -59,7 +59,11 @@ impl Field {
     fn lowest(self, value: u64) -> u64
         ensures { λ r. ⌜ r ≡ value % 2 ^ self .width ⌝ }
     {
-        if self.width < 64 { value % (1 << self.width) } else { value }
+        if self.width < 64 {
+            value % (1 << self.width)
+        } else {
+            value
+        }
     }
 
     /// How many bits of the word lie behind the field.

@@ -11,11 +11,10 @@ use Rattle.book.proofs.Buffers.{put-more, put-done}
 use Rattle.book.proofs.writing.put_all.Needs as need
 
 pub loop-entry-again : need.loop-entry-again
-loop-entry-again c =
-    (
-      omega arith,
-      c .put-in-loop-entry .ensures ∙ put-more (take 6 (c .put .last .out)) (c .put .last .out) (c .loop-entry .out) (c .args .entries .now) (c .loop-entry .entry-index) (c .loop-entry .at) _ (c .bytes-of-in-loop-entry .result) (c .loop-entry-test .taken) (c .bytes-of-in-loop-entry .ensures ∙ ap bytes (c .entry-word .ensures)) (length-take-le 6 (c .put .last .out) (search needs)) (c .loop-entry .inv .0) (search needs) (c .loop-entry .inv .1),
-    )
+loop-entry-again c = (
+  omega arith,
+  c .put-in-loop-entry .ensures ∙ put-more (take 6 (c .put .last .out)) (c .put .last .out) (c .loop-entry .out) (c .args .entries .now) (c .loop-entry .entry-index) (c .loop-entry .at) _ (c .bytes-of-in-loop-entry .result) (c .loop-entry-test .taken) (c .bytes-of-in-loop-entry .ensures ∙ ap bytes (c .entry-word .ensures)) (length-take-le 6 (c .put .last .out) (search needs)) (c .loop-entry .inv .0) (search needs) (c .loop-entry .inv .1),
+)
 
 pub returns : need.returns
 returns c =

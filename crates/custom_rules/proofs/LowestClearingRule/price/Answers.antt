@@ -13,5 +13,5 @@ ghost-result c =
     let D = curve (c .args .figures .now .demand) in
     let S = curve (c .args .figures .now .supply) in
     let found : c .lowest-tick .result ≡ lowest (suc highest-tick) (trades highest-tick D S) =
-        c .lowest-tick .ensures .is ∙ ap (λ (v : ℕ). lowest (suc highest-tick) (λ p. eqb (executable D S p) v)) (c .volume-volume .ensures) in
+    c .lowest-tick .ensures .is ∙ ap (λ (v : ℕ). lowest (suc highest-tick) (λ p. eqb (executable D S p) v)) (c .volume-volume .ensures) in
     (omega (arith, found, clears-within highest-tick D S), tt)
