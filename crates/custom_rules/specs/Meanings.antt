@@ -7,9 +7,9 @@ use Rattle.curves.specs.Curves.{curve, executable, volume}
 use Rattle.curves.specs.Pricing.{PriceMeaning}
 use Rattle.curves.specs.Sharing.{SharingMeaning}
 use Rattle.ranking.specs.Orders.{OrderRank, earlier}
-use Rattle.rules.specs.Ticks.{highest-tick}
+use Rattle.ticks.specs.Ticks.{highest-tick}
 use Rattle.rules.specs.Pairs.{PairMeaning}
-use Rattle.rules.specs.Sharing.{by-turns}
+use Rattle.turns.specs.Turns.{by-turns}
 
 -- the lowest tick at which V can trade
 abbrev pub lowest-clearing : PriceMeaning

@@ -3,7 +3,7 @@ ghost use mathlib.Core.Path.{_≡_};
 ghost use lib.Dec.{eqb};
 ghost use denote.Ref.{now};
 ghost use Rattle.curves.specs.Curves.{executable};
-ghost use Rattle.rules.specs.Seen.{demand-of, supply-of};
+ghost use Rattle.ticks.specs.Seen.{demand-of, supply-of};
 ghost use Rattle.custom_rules.specs.Meanings.{lowest-clearing, smallness, smallest-first, third-of-the-way, larger-left};
 use ranking::OrderFields;
 use ranking::Ranking;
@@ -15,17 +15,17 @@ use ranking::orders::Selling;
 use ranking::orders::SellingSide;
 use ranking::orders::TieBreak;
 use ranking::orders::best_order;
-use rules::figures::Figures;
 use rules::pair::PairPrice;
 use rules::price::PriceRule;
-use rules::search::TickTest;
-use rules::search::lowest_tick;
 use rules::sharing::SharingRule;
-use rules::tick::TICKS;
-use rules::tick::Tick;
-use rules::turns::Turns;
-use rules::turns::share_by_turns;
 use std::io;
+use ticks::figures::Figures;
+use ticks::search::TickTest;
+use ticks::search::lowest_tick;
+use ticks::tick::TICKS;
+use ticks::tick::Tick;
+use turns::Turns;
+use turns::share_by_turns;
 
 /// The lowest tick at which the greatest volume can trade.
 #[derive(Clone, Copy)]
@@ -41,14 +41,11 @@ struct Trades<'a> {
 impl<'a> TickTest for Trades<'a> as TradesTest {
     ghost passing = { λ t p. eqb (executable (demand-of (now (t .figures))) (supply-of (now (t .figures))) p) (t .volume) };
 
-    fn passes(&self, tick: u16) -> bool {
-        match Tick::new(tick) {
-            Some(tick) => self.figures
-                .demand_at(tick)
-                .min(self.figures.supply_at(tick))
-                == self.volume,
-            None => 0 == self.volume,
-        }
+    fn passes(&self, tick: Tick) -> bool {
+        self.figures
+            .demand_at(tick)
+            .min(self.figures.supply_at(tick))
+            == self.volume
     }
 }
 

@@ -20,6 +20,7 @@ abbrev pub best-of : {X : Type 0} → (X → X → Bool) → ℕ → (ℕ → Op
 best-of ahead zero thing = None
 best-of ahead (suc n) thing = joined ahead n (thing n) (best-of ahead n thing)
 
+-- its place alone
 abbrev pub place-of : {X : Type 0} → Option (ℕ × X) → Option ℕ
 place-of None = None
 place-of (Some b) = Some (b .0)

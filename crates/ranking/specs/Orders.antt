@@ -39,13 +39,15 @@ earlier x y = ltb (x .number) (y .number)
 abbrev pub larger : OrderRank
 larger x y = ltb (y .placed) (x .placed) || (eqb (x .placed) (y .placed) && earlier x y)
 
--- the rankings of orders that ship, for the buys and for the sells
+-- the ranking of the buys, or of the sells, in continuous trading
 abbrev pub continuous : Bool → OrderRank
 continuous buys = by-limit buys earlier
 
+-- and in pairing
 abbrev pub paired : Bool → OrderRank
 paired buys = by-limit buys larger
 
+-- what stands past the end of a list
 abbrev pub no-order : OrderFields
 no-order = record { number = 0; limit = 0; placed = 0; left = 0 }
 

@@ -12,6 +12,7 @@ pub trait Places<T: Ranked> {
 
     ghost thing: { Self → ℕ → Option T };
 
+    /// How many places there are.
     fn size(&self) -> usize
         ensures { λ r. ⌜ r ≡ size (now (self .entry)) ⌝ };
 
@@ -21,6 +22,7 @@ pub trait Places<T: Ranked> {
         ensures ends { λ r. ⌜ (size (now (self .entry)) ≤ place → r ≡ None) ⌝ };
 }
 
+/// Whether a thing is ahead of the best so far, if there is one.
 fn is_leading<T: Ranked>(thing: &T, best: &Option<(usize, T)>) -> bool
     ensures { λ r. ⌜ r ≡ leads (T·Ranked .ahead) (now (thing .entry)) (now (best .entry)) ⌝ }
 {

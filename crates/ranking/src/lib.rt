@@ -33,9 +33,11 @@ pub trait Quote: Ranked {
 
     law limits: { LimitLaw buys limit (Self·Ranked .ahead) };
 
+    /// The limit.
     fn limit(&self) -> u16
         ensures { λ r. ⌜ r ≡ limit (now (self .entry)) ⌝ };
 
+    /// The quantity that is left.
     fn left(&self) -> u32
         ensures { λ r. ⌜ r ≡ left (now (self .entry)) ⌝ };
 
@@ -63,6 +65,7 @@ pub trait OrderQuote: Quote {
 
     law from: { MadeFrom (Self·Ranked .mark) (Self·Quote .limit) (Self·Quote .left) made };
 
+    /// The quote of an order.
     fn make(order: &OrderFields) -> Self
         ensures { λ r. ⌜ r ≡ made (now (order .entry)) ⌝ };
 }

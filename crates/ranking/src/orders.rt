@@ -26,6 +26,7 @@ pub trait Side {
         ensures { λ r. ⌜ r ≡ better buys limit other ⌝ };
 }
 
+/// The buys.
 pub struct Buying;
 
 pub impl Side for Buying as BuyingSide {
@@ -36,6 +37,7 @@ pub impl Side for Buying as BuyingSide {
     }
 }
 
+/// The sells.
 pub struct Selling;
 
 pub impl Side for Selling as SellingSide {
@@ -52,6 +54,7 @@ pub trait TieBreak {
 
     law ranks: { RankLaw (λ (o : OrderFields). o .number) ahead };
 
+    /// Whether the order is ahead of the other.
     fn is_ahead(order: &OrderFields, other: &OrderFields) -> bool
         ensures { λ r. ⌜ r ≡ ahead (now (order .entry)) (now (other .entry)) ⌝ };
 }

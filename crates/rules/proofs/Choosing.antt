@@ -11,7 +11,7 @@ use Rattle.curves.specs.Sums.{lowest, highest}
 use Rattle.curves.specs.Curves.{Curves, executable, volume}
 use Rattle.curves.proofs.Sums.{greatest-le, greatest-at, lowest-le, lowest-passes, highest-ge, highest-passes}
 use Rattle.rules.specs.Prices.{smallest, none, candidate, unbalance, least-unbalance, kept-ticks, over, under, clamp, choice, principles-price}
-use Rattle.rules.proofs.Ends.{lowest-most, highest-most}
+use Rattle.ticks.proofs.Ends.{lowest-most, highest-most}
 
 pub smallest-none : (P : ℕ → Bool) (f : ℕ → ℕ) (d : ℕ) → smallest 0 P f d ≡ d
 unfolding smallest

@@ -1,28 +1,15 @@
 -- The price rules that ship keep the law of a price rule.
 use mathlib.Core.Path.{_≡_}
-use mathlib.Core.List.{List}
 use Prim.Native.Nat.{ℕ, suc, _≤_}
 use native.Mathlib.Omega.{arith}
-use lib.ListN.{length}
-use Rattle.std.proofs.shelf.Lists.{getD-past}
 use Rattle.curves.specs.Sums.{lowest, highest}
 use Rattle.curves.specs.Crossing.{crosses, crossing-low, crossing-high}
 use Rattle.curves.specs.Curves.{Curves, curve, volume}
 use Rattle.curves.specs.Pricing.{PriceLaw}
 use Rattle.curves.proofs.Crossings.{crossing-ends, crossing-in-the-middle, crossing-clears}
-use Rattle.rules.specs.Ticks.{highest-tick, Falls, Rises}
+use Rattle.ticks.specs.Ticks.{highest-tick}
 use Rattle.rules.specs.Prices.{crossing, principles}
 use Rattle.rules.proofs.Choosing.{principles-clear}
-
--- figures in order
-pub in-order : (d s : List ℕ) → Falls d → Rises s → length d ≡ suc highest-tick → length s ≡ suc highest-tick → Curves highest-tick (curve d) (curve s)
-in-order d s falls rises dl sl =
-    record {
-      falls = falls;
-      rises = rises;
-      demand-ends = λ p h. getD-past d p 0 (omega arith);
-      supply-ends = λ p h. getD-past s p 0 (omega arith);
-    }
 
 -- the ends of the crossing range are ticks, and so is half their sum
 pub range-ticks : (top : ℕ) (D S : ℕ → ℕ) (v l h : ℕ) → Curves top D S → v ≡ volume top D S → l ≡ lowest (suc top) (crosses v D S) → h ≡ highest (suc top) (crosses v D S) →

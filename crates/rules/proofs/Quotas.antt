@@ -16,8 +16,9 @@ use Rattle.std.proofs.shelf.Tests.{cases-lt}
 use Rattle.curves.specs.Sums.{total}
 use Rattle.curves.specs.Sharing.{SharingLaw}
 use Rattle.curves.proofs.Sums.{total-le, total-same, total-add, total-zero, total-scale}
-use Rattle.rules.specs.Sharing.{goes-first, in-turn, share-at, FilledFirst, UnitsFirst, of-place, by-turns, earliest-first, largest-first, given, part, remainder, unit, pro-rata}
-use Rattle.rules.proofs.Shares.{claim-first, turns-share, total-sumBy, turns-length, turns-within, turns-sum}
+use Rattle.turns.specs.Turns.{goes-first, in-turn, of-place, by-turns}
+use Rattle.rules.specs.Sharing.{share-at, FilledFirst, UnitsFirst, earliest-first, largest-first, given, part, remainder, unit, pro-rata}
+use Rattle.turns.proofs.Shares.{claim-first, turns-share, total-sumBy, turns-length, turns-within, turns-sum}
 
 nothing : (xs : List ℕ) → sumBy (λ (q : ℕ). 0) xs ≡ 0
 nothing xs = let e = total-sumBy (λ q. 0) xs in omega (arith, total-zero (length xs))

@@ -8,7 +8,7 @@ use Rattle.curves.specs.Curves.{curve, figures}
 use Rattle.curves.specs.Crossing.{crossing-middle}
 use Rattle.curves.specs.Orders.{Bid, demand, supply}
 use Rattle.curves.proofs.Prices.{curve-figures}
-use Rattle.rules.specs.Ticks.{highest-tick}
+use Rattle.ticks.specs.Ticks.{highest-tick}
 use Rattle.rules.specs.Prices.{crossing, principles, smallest, principles-price}
 use Rattle.rules.specs.Examples.{Examples, price-of, at-a-limit, demand-left-over, between-limits, one-pair}
 

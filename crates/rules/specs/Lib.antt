@@ -1,5 +1,3 @@
-pub mod Ticks
-pub mod Seen
 pub mod Prices
 pub mod Sharing
 pub mod Pairs

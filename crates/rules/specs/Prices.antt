@@ -6,7 +6,7 @@ use Rattle.curves.specs.Sums.{lowest, highest}
 use Rattle.curves.specs.Curves.{curve, executable, volume}
 use Rattle.curves.specs.Crossing.{before, crossing-middle}
 use Rattle.curves.specs.Pricing.{PriceMeaning}
-use Rattle.rules.specs.Ticks.{highest-tick}
+use Rattle.ticks.specs.Ticks.{highest-tick}
 
 -- the crossing: half the sum of the ends of the crossing range, whatever the reference price
 abbrev pub crossing : PriceMeaning
@@ -57,11 +57,13 @@ choice n u K D S r =
     (cond (none n (over K D S)) (lowest n K)
     (clamp r (highest n (over K D S)) (lowest n (under K D S)))))
 
+-- the price by principles, of demand D and supply S
 abbrev pub principles-price : ℕ → (ℕ → ℕ) → (ℕ → ℕ) → ℕ → ℕ
 principles-price top D S r =
     let v = volume top D S in
     let u = least-unbalance top v D S in
     choice (suc top) u (kept-ticks v u D S) D S r
 
+-- the same as a rule
 abbrev pub principles : PriceMeaning
 principles d s reference = principles-price highest-tick (curve d) (curve s) reference

@@ -3,13 +3,13 @@ ghost use mathlib.Core.Path.{_≡_};
 ghost use denote.Ref.{now};
 ghost use Rattle.curves.specs.Curves.{volume};
 ghost use Rattle.curves.specs.Crossing.{crosses, crossing-middle};
-ghost use Rattle.rules.specs.Seen.{demand-of, supply-of};
-ghost use Rattle.rules.specs.Ticks.{highest-tick};
-use crate::figures::Figures;
-use crate::search::TickTest;
-use crate::search::highest_tick;
-use crate::search::lowest_tick;
-use crate::tick::Tick;
+ghost use Rattle.ticks.specs.Seen.{demand-of, supply-of};
+ghost use Rattle.ticks.specs.Ticks.{highest-tick};
+use ticks::figures::Figures;
+use ticks::search::TickTest;
+use ticks::search::highest_tick;
+use ticks::search::lowest_tick;
+use ticks::tick::Tick;
 
 /// A tick is in the crossing range.
 #[derive(Drop)]
@@ -21,10 +21,11 @@ struct InRange<'a> {
 impl<'a> TickTest for InRange<'a> as RangeTest {
     ghost passing = { λ t. crosses (t .volume) (demand-of (now (t .figures))) (supply-of (now (t .figures))) };
 
-    fn passes(&self, tick: u16) -> bool {
-        (self.figures.demand_above(tick) <= self.volume && self.volume <= self.figures.demand(tick))
+    fn passes(&self, tick: Tick) -> bool {
+        (self.figures.demand_above(tick) <= self.volume
+            && self.volume <= self.figures.demand_at(tick))
             && (self.figures.supply_below(tick) <= self.volume
-                && self.volume <= self.figures.supply(tick))
+                && self.volume <= self.figures.supply_at(tick))
     }
 }
 

@@ -2,14 +2,10 @@
 ghost use Rattle.rules.specs.Examples.{Examples};
 
 pub mod crossing;
-pub mod figures;
 pub mod pair;
 pub mod price;
 mod principles;
-pub mod search;
 pub mod sharing;
-pub mod tick;
-pub mod turns;
 
 /// Worked examples of the rules that ship, derived from their definitions.
 pub fn examples_hold() -> u8

@@ -1,7 +1,7 @@
 //! The price of a pair.
 ghost use mathlib.Core.Path.{_≡_};
 ghost use Rattle.rules.specs.Pairs.{PairMeaning, PairLaw, buyers-price, sellers-price, half-the-sum, earlier-orders-price};
-use crate::tick::Tick;
+use ticks::tick::Tick;
 
 /// Prices a pair, from both limits and which order is the earlier.
 pub trait PairPrice {
@@ -9,6 +9,7 @@ pub trait PairPrice {
 
     law between: { PairLaw meaning };
 
+    /// The price: the rule's meaning of the limits of the buy and the sell, and of which is the earlier.
     fn price(&self, buy: Tick, sell: Tick, buy_is_earlier: bool) -> Tick
         ensures { λ r. ⌜ r .value ≡ meaning (buy .value) (sell .value) «buy_is_earlier» ⌝ };
 }

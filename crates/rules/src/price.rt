@@ -1,12 +1,12 @@
 //! The price of a uniform award.
 ghost use mathlib.Core.Path.{_≡_};
 ghost use Rattle.curves.specs.Pricing.{PriceMeaning, PriceLaw};
-ghost use Rattle.rules.specs.Ticks.{highest-tick};
+ghost use Rattle.ticks.specs.Ticks.{highest-tick};
 ghost use Rattle.rules.specs.Prices.{crossing, principles};
 use crate::crossing::crossing;
-use crate::figures::Figures;
 use crate::principles::principles;
-use crate::tick::Tick;
+use ticks::figures::Figures;
+use ticks::tick::Tick;
 
 /// Picks the tick of a uniform award, from demand and supply at all ticks and the reference price.
 pub trait PriceRule {
@@ -14,6 +14,7 @@ pub trait PriceRule {
 
     law clears: { PriceLaw highest-tick meaning };
 
+    /// The price: the rule's meaning of these figures and this reference price.
     fn price(&self, figures: &Figures, reference: Tick) -> Tick
         ensures { λ r. ⌜ r .value ≡ meaning (now (figures .entry) .demand) (now (figures .entry) .supply) (reference .value) ⌝ };
 }

@@ -2,15 +2,15 @@
 ghost use mathlib.Core.Path.{_≡_};
 ghost use Prim.Native.Nat.{suc};
 ghost use denote.Ref.{now};
-ghost use Rattle.rules.specs.Seen.{demand-of, supply-of};
-ghost use Rattle.rules.specs.Ticks.{highest-tick};
+ghost use Rattle.ticks.specs.Seen.{demand-of, supply-of};
+ghost use Rattle.ticks.specs.Ticks.{highest-tick};
 ghost use Rattle.rules.specs.Prices.{candidate, unbalance, least-unbalance, kept-ticks, over, under, choice, principles-price};
-use crate::figures::Figures;
-use crate::search::TickTest;
-use crate::search::highest_tick;
-use crate::search::lowest_tick;
-use crate::tick::HIGHEST;
-use crate::tick::Tick;
+use ticks::figures::Figures;
+use ticks::search::TickTest;
+use ticks::search::highest_tick;
+use ticks::search::lowest_tick;
+use ticks::tick::HIGHEST;
+use ticks::tick::Tick;
 
 /// A tick is a limit of a standing order, and the executable volume there is V.
 #[derive(Clone, Copy)]
@@ -22,8 +22,8 @@ struct Candidate<'a> {
 impl<'a> TickTest for Candidate<'a> as CandidateTest {
     ghost passing = { λ t. candidate (t .volume) (demand-of (now (t .figures))) (supply-of (now (t .figures))) };
 
-    fn passes(&self, tick: u16) -> bool {
-        let (demand, supply) = (self.figures.demand(tick), self.figures.supply(tick));
+    fn passes(&self, tick: Tick) -> bool {
+        let (demand, supply) = (self.figures.demand_at(tick), self.figures.supply_at(tick));
         demand.min(supply) == self.volume
             && (demand != self.figures.demand_above(tick)
                 || supply != self.figures.supply_below(tick))
@@ -41,7 +41,7 @@ struct Kept<'a> {
 impl<'a> TickTest for Kept<'a> as KeptTest {
     ghost passing = { λ t. kept-ticks (t .volume) (t .least) (demand-of (now (t .figures))) (supply-of (now (t .figures))) };
 
-    fn passes(&self, tick: u16) -> bool {
+    fn passes(&self, tick: Tick) -> bool {
         let candidate = Candidate {
             figures: self.figures,
             volume: self.volume,
@@ -59,9 +59,9 @@ struct Over<'a> {
 impl<'a> TickTest for Over<'a> as OverTest {
     ghost passing = { λ t. over (kept-ticks (t .kept .volume) (t .kept .least) (demand-of (now (t .kept .figures))) (supply-of (now (t .kept .figures)))) (demand-of (now (t .kept .figures))) (supply-of (now (t .kept .figures))) };
 
-    fn passes(&self, tick: u16) -> bool {
+    fn passes(&self, tick: Tick) -> bool {
         let figures = self.kept.figures;
-        self.kept.passes(tick) && figures.supply(tick) < figures.demand(tick)
+        self.kept.passes(tick) && figures.supply_at(tick) < figures.demand_at(tick)
     }
 }
 
@@ -74,17 +74,17 @@ struct Under<'a> {
 impl<'a> TickTest for Under<'a> as UnderTest {
     ghost passing = { λ t. under (kept-ticks (t .kept .volume) (t .kept .least) (demand-of (now (t .kept .figures))) (supply-of (now (t .kept .figures)))) (demand-of (now (t .kept .figures))) (supply-of (now (t .kept .figures))) };
 
-    fn passes(&self, tick: u16) -> bool {
+    fn passes(&self, tick: Tick) -> bool {
         let figures = self.kept.figures;
-        self.kept.passes(tick) && figures.demand(tick) < figures.supply(tick)
+        self.kept.passes(tick) && figures.demand_at(tick) < figures.supply_at(tick)
     }
 }
 
 /// Demand less supply, unsigned.
-fn unbalance_at(figures: &Figures, tick: u16) -> u64
-    ensures { λ r. ⌜ r ≡ unbalance (demand-of (now (figures .entry))) (supply-of (now (figures .entry))) tick ⌝ }
+fn unbalance_at(figures: &Figures, tick: Tick) -> u64
+    ensures { λ r. ⌜ r ≡ unbalance (demand-of (now (figures .entry))) (supply-of (now (figures .entry))) (tick .value) ⌝ }
 {
-    let (demand, supply) = (figures.demand(tick), figures.supply(tick));
+    let (demand, supply) = (figures.demand_at(tick), figures.supply_at(tick));
     if supply < demand {
         demand - supply
     } else {
@@ -97,8 +97,11 @@ fn least_unbalance(test: Candidate) -> u64
     ensures { λ r. ⌜ r ≡ least-unbalance highest-tick (test .entry .volume) (demand-of (now (test .entry .figures))) (supply-of (now (test .entry .figures))) ⌝ }
 {
     let figures = test.figures;
-    let mut least = figures.demand(0).max(figures.supply(HIGHEST));
-    for tick in 0..=HIGHEST {
+    let all_demand = figures.demand_at(Tick { value: 0 });
+    let all_supply = figures.supply_at(Tick { value: HIGHEST });
+    let mut least = all_demand.max(all_supply);
+    for value in 0..=HIGHEST {
+        let tick = Tick { value };
         if test.passes(tick) {
             least = least.min(unbalance_at(figures, tick));
         }

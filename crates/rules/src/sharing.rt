@@ -4,9 +4,9 @@ ghost use Prim.Native.Nat.{_^_, _<_, _≤_};
 ghost use Rattle.std.specs.shelf.Lists.{sum};
 ghost use Rattle.curves.specs.Sharing.{SharingMeaning, SharingLaw};
 ghost use Rattle.rules.specs.Sharing.{earliest-first, largest-first, part, remainder, unit, pro-rata, FilledFirst, UnitsFirst};
-use crate::turns::Turns;
-use crate::turns::share_by_turns;
-use crate::turns::sure_total;
+use turns::Turns;
+use turns::share_by_turns;
+use turns::sure_total;
 
 /// Shares an amount in a group, from its left quantities, earliest first.
 pub trait SharingRule {
@@ -113,6 +113,7 @@ impl Turns for Quota as QuotaTurns {
     }
 }
 
+/// The total of a group.
 fn total(group: &[u32]) -> u128
     ensures { λ r. ⌜ r ≡ sum (now (group .entry)) ⌝ }
 {

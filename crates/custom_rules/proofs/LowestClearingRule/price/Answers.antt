@@ -4,7 +4,7 @@ use native.Mathlib.Omega.{arith}
 use lib.Dec.{eqb}
 use Rattle.curves.specs.Sums.{lowest}
 use Rattle.curves.specs.Curves.{executable, curve}
-use Rattle.rules.specs.Ticks.{highest-tick}
+use Rattle.ticks.specs.Ticks.{highest-tick}
 use Rattle.custom_rules.proofs.Laws.{trades, clears-within}
 use Rattle.custom_rules.proofs.LowestClearingRule.price.Needs as need
 

@@ -1,5 +1,5 @@
 use Rattle.curves.specs.Curves.{curve}
-use Rattle.rules.specs.Ticks.{highest-tick}
+use Rattle.ticks.specs.Ticks.{highest-tick}
 use Rattle.custom_rules.proofs.Laws.{clears-within, clears-there}
 use Rattle.custom_rules.proofs.LowestClearingRule.the-impl.Needs as need
 

@@ -1,7 +1,8 @@
 use Prim.Native.Nat.{_≤_}
 use native.Mathlib.Omega.{arith}
-use Rattle.rules.specs.Ticks.{highest-tick}
-use Rattle.rules.proofs.Prices.{in-order, range-ticks}
+use Rattle.ticks.specs.Ticks.{highest-tick}
+use Rattle.ticks.proofs.Limits.{in-order}
+use Rattle.rules.proofs.Prices.{range-ticks}
 use Rattle.rules.proofs.crossing.crossing.Needs as need
 
 ends : (c : need.After-highest-tick) → (c .lowest-tick .result ≤ highest-tick) × (c .highest-tick .result ≤ highest-tick)

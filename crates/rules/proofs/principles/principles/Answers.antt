@@ -1,6 +1,6 @@
 use native.Mathlib.Omega.{arith}
 use Rattle.curves.specs.Curves.{curve}
-use Rattle.rules.specs.Ticks.{highest-tick}
+use Rattle.ticks.specs.Ticks.{highest-tick}
 use Rattle.rules.specs.Prices.{kept-ticks}
 use Rattle.rules.proofs.Choosing.{choice-is-tick}
 use Rattle.rules.proofs.principles.principles.Needs as need

@@ -1,5 +1,0 @@
-use Rattle.rules.proofs.Limits.{figures-of-orders}
-use Rattle.rules.proofs.figures.figures_of_orders.Needs as need
-
-pub returns : need.returns
-returns c = figures-of-orders
