@@ -1,0 +1,5 @@
+pub mod Keeps
+pub mod Sessions
+pub mod Bids
+pub mod Marks
+pub mod Sifts
