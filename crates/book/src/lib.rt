@@ -1,4 +1,6 @@
 //! The packed order book: its format, its faults, reading and writing.
+#![tactic(auto)]
+
 ghost use Rattle.std.specs.Prelude.{◌≡◌};
 ghost use Rattle.book.specs.Laws.{WrittenReadsBack, ReadIsOnlyWriting, FrontIsEnough};
 

@@ -1,4 +1,6 @@
 //! The sheet of a book.
+#![tactic(auto)]
+
 ghost use Rattle.std.specs.Prelude.{◌≡◌, ℕ, List, ◌++◌, take, IfOk, Some, None, string_bytes, MatchOption, OnOk};
 ghost use Rattle.clearing.specs.Sheet.{fault_line, fault_sheet};
 

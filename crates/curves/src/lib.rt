@@ -1,5 +1,6 @@
 //! Demand and supply by tick, the volume at which they clear, the crossing range, and why awards are best:
 //! definitions and theorems over any list of orders and any highest tick. Each function's contract is a theorem.
+#![tactic(auto)]
 
 ghost use Rattle.curves.specs.Curves.{VolumeIsGreatest};
 ghost use Rattle.curves.specs.Crossing.{CrossingExists, CrossingIsInterval, CrossingClears, CrossingEnds, CrossingMiddle, HalfRoundsUp};

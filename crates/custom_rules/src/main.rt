@@ -1,4 +1,6 @@
 //! A contract that brings its own rules: a price rule, a sharing rule, a pair price and a ranking, each with its law.
+#![tactic(auto)]
+
 ghost use Rattle.std.specs.Prelude.{◌≡◌, ◌==◌};
 ghost use Rattle.curves.specs.Curves.{executable, curve};
 ghost use Rattle.ticks.specs.Seen.{demand_of, supply_of};

@@ -1,4 +1,6 @@
 //! A contract that brings its own rules, and runs a session of each kind by them.
+#![tactic(auto)]
+
 mod own;
 mod sessions;
 mod theorems;

@@ -1,5 +1,7 @@
 //! What rounds owe their members, and what holds after every list of calls: each function's contract is a theorem, over the
 //! definitions that the calls of a session are proved to follow.
+#![tactic(auto)]
+
 ghost use Rattle.std.specs.Prelude.{ℕ};
 ghost use Rattle.ranking.specs.Orders.{order_rank};
 ghost use Rattle.steps.specs.Ways.{Uniform, Paired, Continuous};

@@ -1,4 +1,6 @@
 //! A book in plain words.
+#![tactic(auto)]
+
 ghost use Rattle.std.specs.Prelude.{◌≡◌, ℕ, ◌+◌, ◌^◌, ◌<◌, ◌≤◌, List, [], ◌∷◌, ◌++◌, length, take, IfOk, string_bytes, OnOk};
 ghost use Rattle.book.specs.Reading.{entries};
 ghost use Rattle.listing.specs.Words.{way_name, sharing_name, side_name, kind_name, wording};

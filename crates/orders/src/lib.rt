@@ -1,4 +1,6 @@
 //! Orders, lines and accounts, and the plain tables that hold them.
+#![tactic(auto)]
+
 pub mod changes;
 pub mod demand;
 pub mod members;

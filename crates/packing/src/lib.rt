@@ -1,4 +1,6 @@
 //! Six bytes as one 48-bit word, and the fields that are cut from it.
+#![tactic(auto)]
+
 ghost use Rattle.std.specs.Prelude.{◌≡◌, ℕ, ◌+◌, ◌-◌, ◌*◌, ◌/◌, ◌%◌, ◌^◌, ◌<◌, ◌≤◌, length, nat_lt};
 ghost use Rattle.packing.specs.Fields.{field, word, bytes};
 ghost use Rattle.packing.specs.Laws.{FieldsGiveTheWord, ValuesComeBack, WordsFit, BytesComeBack, WordComesBack};

@@ -1,4 +1,6 @@
 //! Pairing: the best standing buy trades with the best standing sell while their limits meet.
+#![tactic(auto)]
+
 ghost use Rattle.std.specs.Prelude.{◌≡◌, length, None, MatchOption};
 ghost use Rattle.orders.specs.Held.{session_of};
 ghost use Rattle.orders.specs.Kept.{Sound};

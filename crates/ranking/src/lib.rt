@@ -1,4 +1,6 @@
 //! Rankings: which of two things is ahead, what a ranking of orders owes, and the one text that finds the best.
+#![tactic(auto)]
+
 ghost use Rattle.std.specs.Prelude.{◌≡◌, ℕ, Bool, true, false};
 ghost use Rattle.ranking.specs.declared.OrderFields.{OrderFields};
 ghost use Rattle.ranking.specs.Laws.{RankLaw, LimitLaw, better};

@@ -1,5 +1,7 @@
 //! Lists of calls, made one after the other under any rules that keep their laws. What a list leaves is the session that the
 //! definitions of the calls come to, and its history has all that holds after every list of calls.
+#![tactic(auto)]
+
 ghost use Rattle.std.specs.Prelude.{◌≡◌, map};
 ghost use Rattle.orders.specs.Held.{session_of};
 ghost use Rattle.pairing.specs.Quotes.{pairs_of};

@@ -1,4 +1,6 @@
 //! The rules of a market: what each means, the law that each shows, and the rules that ship.
+#![tactic(auto)]
+
 ghost use Rattle.rules.specs.Examples.{Examples};
 
 pub mod crossing;

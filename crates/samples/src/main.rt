@@ -1,5 +1,7 @@
 //! Prints, for each stored book in the order of the index, its sheet where it has a fault, and its listing;
 //! a book that reads is written again and compared with what was read.
+#![tactic(auto)]
+
 use book::{open, write};
 use clearing::fault_sheet;
 use listing::listing;

@@ -1,4 +1,6 @@
 //! Writes the sheet of the order book on standard input.
+#![tactic(auto)]
+
 use anyhow::anyhow;
 use clearing::fault_sheet;
 use std::io::Read;

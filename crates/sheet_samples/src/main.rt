@@ -1,5 +1,7 @@
 //! Prints, for each stored book in the order of the index, its sheet and its listing;
 //! a book that reads is written again and compared with what was read.
+#![tactic(auto)]
+
 use book::{open, write};
 use listing::listing;
 use sheets::sheet;

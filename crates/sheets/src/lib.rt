@@ -1,4 +1,6 @@
 //! The sheet of a book.
+#![tactic(auto)]
+
 mod asks;
 mod batch;
 mod books;

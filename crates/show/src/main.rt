@@ -1,4 +1,6 @@
 //! Says in plain words what the order book on standard input holds, or which question it fails.
+#![tactic(auto)]
+
 use listing::listing;
 use std::io::Read;
 

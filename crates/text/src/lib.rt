@@ -1,4 +1,6 @@
 //! Rows of text: a word, then numbers in decimals, each behind a space.
+#![tactic(auto)]
+
 ghost use Rattle.std.specs.Prelude.{◌≡◌, ◌≤◌, ◌++◌, drop, decimal, OnOk};
 ghost use Rattle.text.specs.Rows.{spaced, row, NumbersReadBack};
 

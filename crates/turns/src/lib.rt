@@ -1,4 +1,6 @@
 //! Sharing by turns, in place: one text for every rule that goes by a key, then earlier.
+#![tactic(auto)]
+
 ghost use Rattle.std.specs.Prelude.{◌≡◌, ℕ, ◌+◌, ◌<◌, ◌≤◌, length, sum_by};
 ghost use Rattle.turns.specs.Turns.{of_place, by_turns, claims_above, RunsOut, got};
 

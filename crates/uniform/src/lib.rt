@@ -1,4 +1,6 @@
 //! A uniform round: one price for all, the greatest volume, best limits first.
+#![tactic(auto)]
+
 ghost use Rattle.std.specs.Prelude.{◌≡◌};
 ghost use Rattle.orders.specs.Held.{session_of};
 ghost use Rattle.orders.specs.Settlement.{settled};
