@@ -7,8 +7,8 @@ use Rattle.book.specs.declared.values.Entry.{Entry}
 use Rattle.book.specs.Writing.{entry_bytes, book_length}
 use Rattle.book.proofs.RoundTrip.{length_records}
 
-pub put_mid : (at : ℕ) (out part six : List ℕ) → part ≡ six → put_mid at (at + 6 - at) out part ≡ take at out ++ (six ++ drop (at + 6) out)
-put_mid at out part six e =
+pub put_six : (at : ℕ) (out part six : List ℕ) → part ≡ six → put_mid at (at + 6 - at) out part ≡ take at out ++ (six ++ drop (at + 6) out)
+put_six at out part six e =
     let k : at + 6 - at ≡ 6 = omega arith in
     rw (k, e) (ap (λ (l : List ℕ). take at out ++ (six ++ l)) (drop-drop 6 at out))
 

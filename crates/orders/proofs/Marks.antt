@@ -33,8 +33,8 @@ bit_pow k j =
       ]
     ]
 
-bit_or : (n k j : ℕ) → bit j (bit_or n (2 ^ k)) ≡ max (bit j n) (cond (eqb k j) 1 0)
-bit_or n k j =
+bit_of_or : (n k j : ℕ) → bit j (bit_or n (2 ^ k)) ≡ max (bit j n) (cond (eqb k j) 1 0)
+bit_of_or n k j =
     ap (λ z. z % 2) (or_shr n (2 ^ k) j)
     ∙ omega (arith, or_step (n / 2 ^ j) (2 ^ k / 2 ^ j), bit_pow k j)
 
@@ -103,7 +103,7 @@ pub marked_more : (ls : List Line) (i n : ℕ) → i < length ls
     → (j : ℕ) → bit j (bit_or n (2 ^ (get_or ls i no_line).member)) ≡ cond (has_line (take (i + 1) ls) j) 1 0
 marked_more ls i n lt h j =
     let m = (get_or ls i no_line).member in
-    bit_or n m j
+    bit_of_or n m j
     ∙ ap (λ z. max z (cond (eqb m j) 1 0)) (h j)
     ∙ max_or (has_line (take i ls) j) (eqb m j)
     ∙ ap (λ z. cond z 1 0) (sym (has_push (take i ls) (get_or ls i no_line) j) ∙ sym (ap (λ z. has_line z j) (take_more ls i no_line lt)))

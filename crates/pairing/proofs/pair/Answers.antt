@@ -11,15 +11,15 @@ use Rattle.pairing.proofs.pair.Goals as goal
 
 pub loop-pair-init : goal.loop-pair-init
 loop-pair-init g c =
-    let tables = c.clear-lines.new.self in
-    let e : session_of tables ≡ cleared (session_of c.args.tables.now) = c.clear-lines.ensures in
+    let tables = c.clear_lines.new.self in
+    let e : session_of tables ≡ cleared (session_of c.args.tables.now) = c.clear_lines.ensures in
     let kept = kept_orders tables.orders tables.count tables.ordered in
     (so_far_none _ (session_of tables) (ap cleared e ∙ sym e) kept.0 kept.1, ap (λ (s : Session). bought s.lines) (sym e))
 
 pub loop-pair-smaller : goal.loop-pair-smaller
 loop-pair-smaller g c =
     let rules : Pairs = pairs_of g.Buy.Ranked.ahead g.Buy.OrderQuote.made g.Sell.Ranked.ahead g.Sell.OrderQuote.made g.P.PairPrice.meaning in
-    let s = session_of c.clear-lines.new.self in
+    let s = session_of c.clear_lines.new.self in
     let t = session_of c.loop-pair.tables in
     let pair = c.in-Some.pair in
     let found : BestPair rules t.orders pair = subst (λ os. BestPair rules os pair) c.placed.ensures.is c.in-Some.ensures in
@@ -30,7 +30,7 @@ loop-pair-smaller g c =
 pub loop-pair-preserved : goal.loop-pair-preserved
 loop-pair-preserved g c =
     let rules : Pairs = pairs_of g.Buy.Ranked.ahead g.Buy.OrderQuote.made g.Sell.Ranked.ahead g.Sell.OrderQuote.made g.P.PairPrice.meaning in
-    let s = session_of c.clear-lines.new.self in
+    let s = session_of c.clear_lines.new.self in
     let t = session_of c.loop-pair.tables in
     let pair = c.in-Some.pair in
     let found : BestPair rules t.orders pair = subst (λ os. BestPair rules os pair) c.placed.ensures.is c.in-Some.ensures in
@@ -43,17 +43,17 @@ pub returns : goal.returns
 returns g c =
     let rules : Pairs = pairs_of g.Buy.Ranked.ahead g.Buy.OrderQuote.made g.Sell.Ranked.ahead g.Sell.OrderQuote.made g.P.PairPrice.meaning in
     let began = session_of c.args.tables.now in
-    let s = session_of c.clear-lines.new.self in
+    let s = session_of c.clear_lines.new.self in
     let t = session_of c.loop-pair.tables in
     let f : SoFar rules s t = c.loop-pair.invariant.0 in
-    let none : best_pair rules t.orders ≡ None = subst (λ os. best_pair rules os ≡ None) c.placed.ensures.is c.in-default.ensures in
+    let none : best_pair rules t.orders ≡ None = subst (λ os. best_pair rules os ≡ None) c.placed.ensures.is c.in_default.ensures in
     let buys = order_law g.Buy.Ranked.mark g.Buy.Quote.limit g.Buy.Quote.left g.Buy.Ranked.ahead g.Buy.OrderQuote.made _ true
     g.met.Buy.Ranked.ranks g.met.Buy.Quote.limits g.met.Buy.OrderQuote.from g.met.R.Ranking.sides.0 in
     let sells = order_law g.Sell.Ranked.mark g.Sell.Quote.limit g.Sell.Quote.left g.Sell.Ranked.ahead g.Sell.OrderQuote.made _ false
     g.met.Sell.Ranked.ranks g.met.Sell.Quote.limits g.met.Sell.OrderQuote.from g.met.R.Ranking.sides.1 in
-    let u = session_of c.rank-lines.new.self in
+    let u = session_of c.rank_lines.new.self in
     record {
-      after = settled_all rules began s t u c.clear-lines.ensures f none c.rank-lines.ensures;
-      volume = bought_all rules began s t u c.clear-lines.ensures f none c.rank-lines.ensures c.loop-pair.volume c.loop-pair.invariant.1;
-      uncrossed = uncrossed_all rules began s t u c.clear-lines.ensures f none c.rank-lines.ensures buys sells;
+      after = settled_all rules began s t u c.clear_lines.ensures f none c.rank_lines.ensures;
+      volume = bought_all rules began s t u c.clear_lines.ensures f none c.rank_lines.ensures c.loop-pair.volume c.loop-pair.invariant.1;
+      uncrossed = uncrossed_all rules began s t u c.clear_lines.ensures f none c.rank_lines.ensures buys sells;
     }

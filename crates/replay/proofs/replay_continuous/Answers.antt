@@ -13,7 +13,7 @@ loop-deal-init g c = (refl, refl)
 pub loop-deal-preserved : goal.loop-deal-preserved
 loop-deal-preserved g c =
     let w = Continuous (pairs_of g.Buy.Ranked.ahead g.Buy.OrderQuote.made g.Sell.Ranked.ahead g.Sell.OrderQuote.made g.P.PairPrice.meaning) in
-    let made = c.make-deal.ensures in (
+    let made = c.make_deal.ensures in (
       after_more call_of w w _ (session_of c.loop-deal.session.tables) _ c.args.deals.now c.loop-deal.deal-index (Place no_ask)
           c.loop-deal-test.true refl c.loop-deal.invariant.0 made.session,
       made.rules ∙ c.loop-deal.invariant.1,
@@ -29,5 +29,5 @@ returns g c =
       run = after_all call_of w w period _ (session_of c.loop-deal.session.tables) deals c.loop-deal.deal-index c.loop-deal-test.false refl opened.session
           c.loop-deal.invariant.0;
       rules = c.loop-deal.invariant.1 ∙ opened.rules;
-      holds = c.continuous-sessions-hold.ensures period (map call_of deals);
+      holds = c.continuous_sessions_hold.ensures period (map call_of deals);
     }

@@ -4,5 +4,5 @@ use Rattle.text.proofs.put_number.Goals as goal
 
 pub returns : goal.returns
 returns c =
-    after_space _ _ _ _ c.args.number c.in-ok-push.ensures.items c.in-ok-extend-from-slice.ensures.items
+    after_space _ _ _ _ c.args.number c.in_ok-push.ensures.items c.in_ok-extend_from_slice.ensures.items
     (whole_rest c.spell-start.new.digits c.spell-start.result (search rules) ∙ c.spell-start.ensures.spells)

@@ -3,9 +3,9 @@ use Rattle.text.proofs.put_row.Goals as goal
 
 pub loop-number-preserved : goal.loop-number-preserved
 loop-number-preserved c =
-    number_more c.args.numbers.now c.loop-number.number-index _ _ _ c.loop-number-test.true c.in-ok-put-number.ensures c.loop-number.invariant
+    number_more c.args.numbers.now c.loop-number.number-index _ _ _ c.loop-number-test.true c.in_ok-put_number.ensures c.loop-number.invariant
 
 pub returns : goal.returns
 returns c =
     row_end c.args.word.now c.args.numbers.now c.loop-number.number-index _ _ _ _ c.loop-number-test.false
-    c.in-ok-extend-from-slice.ensures.items c.loop-number.invariant c.in-ok-push.ensures.items
+    c.in_ok-extend_from_slice.ensures.items c.loop-number.invariant c.in_ok-push.ensures.items

@@ -14,6 +14,6 @@ loop-quantity-preserved g c =
     let claim = of_place (g.T.Turns.claim c.args.turns.now) c.args.group.now in
     let more = total_more c.loop-quantity.quantity-index (λ k. cond (ltb c.args.level (key k)) (claim k) 0) in
     elim c.if-key-level.branch [
-      | then-key-level w ↦ (grind (arith, nat_tests), omega (arith, w.sum-is, w.claim.type-inv))
+      | then-key-level w ↦ (grind (arith, nat_tests), omega (arith, w.sum-is, w.claim.type_inv))
       | else-key-level w ↦ (grind (arith, nat_tests), omega (arith, w.sum-is))
     ]

@@ -10,7 +10,7 @@ pub loop-quantity-init : goal.loop-quantity-init
 loop-quantity-init g c =
     let key = of_place (g.T.Turns.key c.args.turns.now) c.args.group.now in
     let claim = of_place (g.T.Turns.claim c.args.turns.now) c.args.group.now in
-    (omega (arith, total_none (λ j. cond (eqb c.level-of-level.result (key j)) (claim j) 0)), λ k h. absurd (omega arith), λ k h. refl)
+    (omega (arith, total_none (λ j. cond (eqb c.level_of-level.result (key j)) (claim j) 0)), λ k h. absurd (omega arith), λ k h. refl)
 
 pub loop-quantity-preserved : goal.loop-quantity-preserved
 loop-quantity-preserved g c =
@@ -20,14 +20,14 @@ loop-quantity-preserved g c =
     let group = c.args.group.now in
     let i = c.loop-quantity.quantity-index in
     let h : i < length group = omega arith in
-    let level = c.level-of-level.result in
+    let level = c.level_of-level.result in
     let spare = c.loop-quantity.spare in
-    let out = c.level-of-level.ensures in
+    let out = c.level_of-level.ensures in
     let here : get_or c.loop-quantity.group i 0 ≡ get_or group i 0 = c.loop-quantity.invariant.2 i (omega arith) in
-    let part : c.part-of-part.result ≡ got key claim level spare (get_or group i 0) = c.part-of-part.ensures ∙ ap (got key claim level spare) here in
+    let part : c.part_of-part.result ≡ got key claim level spare (get_or group i 0) = c.part_of-part.ensures ∙ ap (got key claim level spare) here in
     let its-key : c.key.result ≡ of_place key group i = c.key.ensures ∙ ap key here in
     let its-sure : c.sure.result ≡ of_place sure group i = c.sure.ensures ∙ ap sure here in
-    let share : c.sure.result + c.part-of-part.result ≡ get_or (by_turns sure key claim c.args.amount group) i 0 =
+    let share : c.sure.result + c.part_of-part.result ≡ get_or (by_turns sure key claim c.args.amount group) i 0 =
     omega (arith, share_is sure key claim c.args.amount group level out i h spare c.loop-quantity.invariant.0) in (
       elim c.if-key-level.branch [
         | then-key-level w ↦

@@ -8,9 +8,9 @@ use Rattle.uniform.proofs.Award.{round_ready}
 use Rattle.uniform.proofs.Cleared.{volume_seen, asked, made_seen, round_settles}
 use Rattle.uniform.proofs.clear.Goals as goal
 
-pub trade-all-requires : goal.trade-all-requires
-trade-all-requires g c =
-    let s = session_of c.clear-lines.new.self in
+pub trade_all-requires : goal.trade_all-requires
+trade_all-requires g c =
+    let s = session_of c.clear_lines.new.self in
     let os = s.orders in
     let figures = c.figures-figures.result in
     let same = c.placed-2.ensures.is in
@@ -22,15 +22,15 @@ trade-all-requires g c =
     record {
       starts = starts;
       ready = round_ready share g.met.S.SharingRule.shares os sound c.new-margins.result starts made s refl
-          (ap (λ (z : Session). z.lines) c.clear-lines.ensures) (omega (arith, ap length same, c.placed-2.ensures.count));
+          (ap (λ (z : Session). z.lines) c.clear_lines.ensures) (omega (arith, ap length same, c.placed-2.ensures.count));
     }
 
 pub returns : goal.returns
 returns g c =
     let before = session_of c.args.tables.now in
-    let s = session_of c.clear-lines.new.self in
+    let s = session_of c.clear_lines.new.self in
     let os = s.orders in
-    let orders_stay : os ≡ before.orders = ap (λ (z : Session). z.orders) c.clear-lines.ensures in
+    let orders_stay : os ≡ before.orders = ap (λ (z : Session). z.orders) c.clear_lines.ensures in
     let figures = c.figures-figures.result in
     let wanted = c.figures-figures.ensures.demand in
     let offered = c.figures-figures.ensures.supply in
@@ -44,7 +44,7 @@ returns g c =
     let made = made_seen os figures.demand figures.supply wanted offered
     share v c.placed-2.result.now c.new-margins.result c.volume-volume.ensures same c.new-margins.ensures.made in
     let some : ltb 0 (uniform_volume os) ≡ true =
-    ap (λ (z : List Order). ltb 0 (uniform_volume z)) (sym c.placed.ensures.is) ∙ sym c.if-not-is-crossed.ensures in
+    ap (λ (z : List Order). ltb 0 (uniform_volume z)) (sym c.placed.ensures.is) ∙ sym c.if-not-is_crossed.ensures in
     let is : p ≡ uniform_price price r os = asked os figures.demand figures.supply wanted offered price r p some c.price-tick.ensures in
     let V : v ≡ uniform_volume os = volume_seen os figures.demand figures.supply wanted offered v c.volume-volume.ensures in
     record {
@@ -53,7 +53,7 @@ returns g c =
           ∙ ap (λ (z : ℕ). (uniform_volume os, z)) (c.value.ensures.is ∙ is)
           ∙ ap (λ (z : List Order). (uniform_volume z, uniform_price price r z)) orders_stay;
       after =
-          c.rank-lines.ensures
-          ∙ ap with_ranked_lines c.trade-all.ensures
-          ∙ round_settles price share g.met.S.SharingRule.shares r p before s c.new-margins.result c.clear-lines.ensures sound c.new-margins.ensures.starts made some is;
+          c.rank_lines.ensures
+          ∙ ap with_ranked_lines c.trade_all.ensures
+          ∙ round_settles price share g.met.S.SharingRule.shares r p before s c.new-margins.result c.clear_lines.ensures sound c.new-margins.ensures.starts made some is;
     }

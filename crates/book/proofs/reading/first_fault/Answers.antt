@@ -4,10 +4,10 @@ use Rattle.book.proofs.reading.first_fault.Goals as goal
 
 pub returns-in-Some : goal.returns-in-Some
 returns-in-Some c =
-    fault_here c.args.way c.loop-rest.record c.word-of.result c.loop-rest.rest.now (search rules) c.word-of.ensures.value c.in-Some.question c.in-Some.ensures ∙ c.loop-rest.invariant.0
+    fault_here c.args.way c.loop-rest.record c.word_of.result c.loop-rest.rest.now (search rules) c.word_of.ensures.value c.in-Some.question c.in-Some.ensures ∙ c.loop-rest.invariant.0
 
 pub loop-rest-preserved : goal.loop-rest-preserved
 loop-rest-preserved c = (
-  fault_later c.args.way c.loop-rest.record c.word-of.result c.loop-rest.rest.now (search rules) c.word-of.ensures.value c.in-default-record-no.ensures ∙ c.loop-rest.invariant.0,
+  fault_later c.args.way c.loop-rest.record c.word_of.result c.loop-rest.rest.now (search rules) c.word_of.ensures.value c.in_default-record_no.ensures ∙ c.loop-rest.invariant.0,
   search rules,
 )

@@ -9,7 +9,7 @@ returns-in-Some c =
 
 pub loop-i-preserved : goal.loop-i-preserved
 loop-i-preserved c =
-    scan_more fit_questions (c.loop-i.i + 1) c.args.entries.now c.loop-i.i _ c.loop-i-test.true c.in-default.ensures ∙ c.loop-i.invariant
+    scan_more fit_questions (c.loop-i.i + 1) c.args.entries.now c.loop-i.i _ c.loop-i-test.true c.in_default.ensures ∙ c.loop-i.invariant
 
 pub returns : goal.returns
 returns c = scan_end fit_questions (c.loop-i.i + 1) c.args.entries.now c.loop-i.i c.loop-i-test.false ∙ c.loop-i.invariant

@@ -7,7 +7,7 @@ use Rattle.ranking.proofs.find.find_best.Goals.{in-Some+then-is-leading, in-Some
 pub loop-place-preserved : goal.loop-place-preserved
 loop-place-preserved g c =
     let more = best_more g.T.Ranked.ahead c.loop-place.place (g.S.Places.thing c.args.table.now) in
-    elim c.match-at.branch [ in-Some+then-is-leading w ↦ search rules | in-Some+else-is-leading w ↦ search rules | in-default w ↦ search rules ]
+    elim c.match-at.branch [ in-Some+then-is_leading w ↦ search rules | in-Some+else-is_leading w ↦ search rules | in-default w ↦ search rules ]
 
 pub returns-in-Some-best : goal.returns-in-Some-best
 returns-in-Some-best g c =

@@ -13,9 +13,9 @@ returns-in-0 c =
     let h = c.args.book.header in
     let told = ap (λ x. x.way) c.header.ensures in
     let z : h.way ≡ 0 = omega arith in
-    IfOk-weaker c.uniform-text.result _ _
+    IfOk-weaker c.uniform_text.result _ _
     (λ t q. text_of_way (Uniform crossing (sharing_of h.sharing) c.args.figures.reference.value) (way_of h) c.args.figures.period.quarters h.period (calls_of (entries c.args.book.rest.now)) _ (ap (Uniform crossing (sharing_of h.sharing)) c.requires.opens.1 ∙ sym (at_0 h z)) c.requires.opens.0 q)
-    c.uniform-text.ensures
+    c.uniform_text.ensures
 
 pub returns-in-1 : goal.returns-in-1
 returns-in-1 c =
@@ -53,11 +53,11 @@ returns-in-4 c =
     (λ t q. text_of_way (paired_at half_the_sum) (way_of h) c.args.figures.period.quarters h.period (calls_of (entries c.args.book.rest.now)) _ (sym (at_4 h z)) c.requires.opens.0 q)
     c.run-in-4.ensures
 
-pub returns-in-default : goal.returns-in-default
-returns-in-default c =
+pub returns-in_default : goal.returns-in_default
+returns-in_default c =
     let h = c.args.book.header in
     let told = ap (λ x. x.way) c.header.ensures in
     let z : 5 ≤ h.way = omega arith in
-    IfOk-weaker c.run-continuous.result _ _
+    IfOk-weaker c.run_continuous.result _ _
     (λ t q. text_of_way continuous_way (way_of h) c.args.figures.period.quarters h.period (calls_of (entries c.args.book.rest.now)) _ (sym (at_5 h z)) c.requires.opens.0 q)
-    c.run-continuous.ensures
+    c.run_continuous.ensures

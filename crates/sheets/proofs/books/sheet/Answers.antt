@@ -24,7 +24,7 @@ returns-in-Ok c =
     record {
       text = λ input e. IfOk-weaker c.opened.result _ _ (λ t q. q ∙ sym (ap sheet_read (at input e))) c.opened.ensures;
       right = λ input e. subst (λ (r : Result (Header × List Entry) Fault). RightRead r) (sym (at input e))
-          (c.every-way-holds.ensures c.in-Ok.book.header c.in-Ok.book.header.period (calls_of (entries c.in-Ok.book.rest.now)));
+          (c.every_way_holds.ensures c.in-Ok.book.header c.in-Ok.book.header.period (calls_of (entries c.in-Ok.book.rest.now)));
     }
 
 pub returns-in-Err : goal.returns-in-Err

@@ -22,12 +22,12 @@ returns-in-1 g c =
     (λ t q. text_of_uniform g.P.PriceRule.meaning largest_first n _ c.args.figures.reference.value c.args.figures.period.quarters (calls_of (entries c.args.book.rest.now)) _ c.new-in-1.ensures (ap sharing_of z) q)
     c.run-in-1.ensures
 
-pub returns-in-default : goal.returns-in-default
-returns-in-default g c =
+pub returns-in_default : goal.returns-in_default
+returns-in_default g c =
     let n = c.args.book.header.sharing in
     let h = ap (λ h. h.sharing) c.header.ensures in
     let a : n ≡ 0 → ⊥ = λ z. omega arith in
     let b : n ≡ 1 → ⊥ = λ z. omega arith in
-    IfOk-weaker c.run-in-default.result _ _
-    (λ t q. text_of_uniform g.P.PriceRule.meaning pro_rata n _ c.args.figures.reference.value c.args.figures.period.quarters (calls_of (entries c.args.book.rest.now)) _ c.new-in-default.ensures (sharing_rest n a b) q)
-    c.run-in-default.ensures
+    IfOk-weaker c.run-in_default.result _ _
+    (λ t q. text_of_uniform g.P.PriceRule.meaning pro_rata n _ c.args.figures.reference.value c.args.figures.period.quarters (calls_of (entries c.args.book.rest.now)) _ c.new-in_default.ensures (sharing_rest n a b) q)
+    c.run-in_default.ensures

@@ -31,17 +31,17 @@ loop-next-preserved g c =
     let s = session_of c.loop-next.session.tables in
     let told = c.loop-next.invariant.0 in
     elim c.match-entry.branch [
-      | in-Place+in-ok-place w ↦
+      | in-Place+in_ok-place w ↦
           let asked = ap CallPlace w.ask_of.ensures in (
             so_far_turn _ way _ s _ _ (calls_of all) (calls_of rest) _ c.loop-next.sheet _ _ k refl (ap calls_of (at _ w.in-Place.is)) w.sheet-is
-                (subst (λ (x : Call). Told k (step way s x) c.loop-next.sheet w.place.new.sheet) asked w.in-ok-place.ensures.sheet)
+                (subst (λ (x : Call). Told k (step way s x) c.loop-next.sheet w.place.new.sheet) asked w.in_ok-place.ensures.sheet)
                 (ap (λ x. session_of x.tables) w.session-is ∙ w.place.ensures.session ∙ ap (λ x. (step way s x).1) asked) told,
             (placing _ w.in-Place.is).1,
             few,
           )
-      | in-Withdraw+in-ok-withdraw w ↦ (
+      | in-Withdraw+in_ok-withdraw w ↦ (
         so_far_turn _ way _ s _ _ (calls_of all) (calls_of rest) _ c.loop-next.sheet _ _ k refl (ap calls_of (at _ w.in-Withdraw.is)) w.sheet-is
-            w.in-ok-withdraw.ensures.sheet
+            w.in_ok-withdraw.ensures.sheet
             (ap (λ x. session_of x.tables) w.session-is ∙ w.withdraw.ensures.session) told,
         (placing _ w.in-Withdraw.is).1,
         few,
@@ -52,5 +52,5 @@ loop-next-preserved g c =
 pub returns : goal.returns
 returns g c =
     so_far_whole _ _ c.args.figures.period.quarters _ (session_of c.loop-next.session.tables) (calls_of (entries c.args.book.rest.now)) _ _ _ _ _
-    refl c.open-session.ensures.session (ap calls_of c.in-default.ensures.hands)
-    c.loop-next.invariant.0 c.in-ok-put-accounts.ensures
+    refl c.open-session.ensures.session (ap calls_of c.in_default.ensures.hands)
+    c.loop-next.invariant.0 c.in_ok-put_accounts.ensures

@@ -11,32 +11,32 @@ pub loop-order-preserved : goal.loop-order-preserved
 loop-order-preserved c =
     let os = c.args.orders.now in
     let i = c.loop-order.order-index in
-    let a = c.loop-order.above-buys in
-    let l = c.loop-order.lowest-sell in
+    let a = c.loop-order.above_buys in
+    let l = c.loop-order.lowest_sell in
     let lt : i < length os = omega arith in
     let sound = c.requires i lt in
     let was = c.loop-order.invariant in
     elim c.match-order.branch [
       | in-Standing-Buy w ↦
-          let high : c.match-order.above-buys ≡ max a ((at os i).limit + 1) = search rules in
-          subst (λ (z : ℕ). Scanned os (i + 1) z c.match-order.lowest-sell) (sym high)
-          (subst (λ (z : ℕ). Scanned os (i + 1) (max a ((at os i).limit + 1)) z) (sym w.lowest-sell-is)
+          let high : c.match-order.above_buys ≡ max a ((at os i).limit + 1) = search rules in
+          subst (λ (z : ℕ). Scanned os (i + 1) z c.match-order.lowest_sell) (sym high)
+          (subst (λ (z : ℕ). Scanned os (i + 1) (max a ((at os i).limit + 1)) z) (sym w.lowest_sell-is)
           (scanned_buy os i lt sound a l was (ap is_standing w.in-Standing-Buy.is-0) (ap buys w.in-Standing-Buy.is-1)))
       | in-Standing-Sell w ↦
-          let low : c.match-order.lowest-sell ≡ min l (at os i).limit = search rules in
-          subst (λ (z : ℕ). Scanned os (i + 1) z c.match-order.lowest-sell) (sym w.above-buys-is)
+          let low : c.match-order.lowest_sell ≡ min l (at os i).limit = search rules in
+          subst (λ (z : ℕ). Scanned os (i + 1) z c.match-order.lowest_sell) (sym w.above_buys-is)
           (subst (λ (z : ℕ). Scanned os (i + 1) a z) (sym low)
           (scanned_sell os i lt sound a l was (ap is_standing w.in-Standing-Sell.is-0) (ap buys w.in-Standing-Sell.is-1)))
       | in-default w ↦ let h = w.in-default in
-          subst (λ (z : ℕ). Scanned os (i + 1) z c.match-order.lowest-sell) (sym w.above-buys-is)
-          (subst (λ (z : ℕ). Scanned os (i + 1) a z) (sym w.lowest-sell-is)
+          subst (λ (z : ℕ). Scanned os (i + 1) z c.match-order.lowest_sell) (sym w.above_buys-is)
+          (subst (λ (z : ℕ). Scanned os (i + 1) a z) (sym w.lowest_sell-is)
           (scanned_other os i lt sound a l was (search rules)))
     ]
 
 pub returns : goal.returns
 returns c =
     let os = c.args.orders.now in
-    let a = c.loop-order.above-buys in
-    let l = c.loop-order.lowest-sell in
+    let a = c.loop-order.above_buys in
+    let l = c.loop-order.lowest_sell in
     let all : c.loop-order.order-index ≡ length os = omega arith in
     scanned_all os a l (subst (λ (n : ℕ). Scanned os n a l) all c.loop-order.invariant)

@@ -15,15 +15,15 @@ loop-order-preserved g c =
     let n = c.loop-order.count in
     let qs = c.loop-order.group in
     let fits : n < length qs = omega (arith, c.loop-order.invariant.1) in
-    elim c.if-stands-at.branch [
+    elim c.if-stands_at.branch [
       | then-stands-at w ↦
-          subst (λ (z : ℕ). Gathered side l os i lt (i + 1) z c.if-stands-at.group) (sym w.count-is)
+          subst (λ (z : ℕ). Gathered side l os i lt (i + 1) z c.if-stands_at.group) (sym w.count-is)
           (subst (λ (z : List ℕ). Gathered side l os i lt (i + 1) (n + 1) z) (sym w.group-is)
-          (gathered_yes side l os i lt n qs fits (sym c.stands-at.ensures ∙ w.if-stands-at.true) c.loop-order.invariant))
+          (gathered_yes side l os i lt n qs fits (sym c.stands_at.ensures ∙ w.if-stands_at.true) c.loop-order.invariant))
       | else-stands-at w ↦
-          subst (λ (z : ℕ). Gathered side l os i lt (i + 1) z c.if-stands-at.group) (sym w.count-is)
+          subst (λ (z : ℕ). Gathered side l os i lt (i + 1) z c.if-stands_at.group) (sym w.count-is)
           (subst (λ (z : List ℕ). Gathered side l os i lt (i + 1) n z) (sym w.group-is)
-          (gathered_no side l os i lt n qs (sym c.stands-at.ensures ∙ w.if-stands-at.false) c.loop-order.invariant))
+          (gathered_no side l os i lt n qs (sym c.stands_at.ensures ∙ w.if-stands_at.false) c.loop-order.invariant))
     ]
 
 pub returns : goal.returns

@@ -8,8 +8,8 @@ use Rattle.orders.proofs.Keeps.{orders_more, accounts_more}
 use Rattle.orders.proofs.Sessions.{sound_new}
 use Rattle.orders.proofs.tables.Tables.accept.Goals as goal
 
-pub invariant-of-self : goal.invariant-of-self
-invariant-of-self c =
+pub invariant_of-self : goal.invariant_of-self
+invariant_of-self c =
     let t = c.args.self.now in
     let new = c.numbered.result in
     let sound = ap (sound_order t.count) c.numbered.ensures ∙ sound_new c.args.ask t.count c.requires.sound in (

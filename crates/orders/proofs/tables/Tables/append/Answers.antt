@@ -8,5 +8,5 @@ pub accept-requires : goal.accept-requires
 accept-requires c =
     let t = c.args.self.now in
     let os = take t.count t.orders in
-    let a = and_parts (sound_ask c.args.ask) (ltb (length os) most_orders) (sym c.if-not-can-accept.ensures) in
+    let a = and_parts (sound_ask c.args.ask) (ltb (length os) most_orders) (sym c.if-not-can_accept.ensures) in
     record { room = omega (arith, ltb-true (length os) most_orders a.1, length-take t.count t.orders, t.ordered.0); sound = a.0 }

@@ -7,8 +7,8 @@ use Rattle.orders.specs.Held.{session_of}
 use Rattle.orders.proofs.Keeps.{orders_set, accounts_put, gone_event, take_set_lt}
 use Rattle.orders.proofs.tables.Tables.apply.Goals as goal
 
-pub invariant-of-self : goal.invariant-of-self
-invariant-of-self c =
+pub invariant_of-self : goal.invariant_of-self
+invariant_of-self c =
     let t = c.args.self.now in
     let i = c.args.place in
     let e = c.args.event in

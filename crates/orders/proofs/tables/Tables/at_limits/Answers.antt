@@ -32,11 +32,11 @@ loop-order-preserved c =
     let inv = c.loop-order.invariant in
     let lt : i < length os = omega arith in
     let m = (at os i).limit in
-    let v = c.standing-on.result in
+    let v = c.standing_on.result in
     let sound = c.placed-placed.ensures.sound i lt in
     let same = bid_at os i lt in
     let fits : m < length qs = omega (arith, (sound_parts i (at os i) sound).limit, inv.0) in
-    let one : v ≡ standing_on side (bid (bids_of os) i) = c.standing-on.ensures ∙ sym (ap (standing_on side) same) in
+    let one : v ≡ standing_on side (bid (bids_of os) i) = c.standing_on.ensures ∙ sym (ap (standing_on side) same) in
     let long = length-set qs m (get_or qs m 0 + v) in (
       long ∙ inv.0,
       (λ l h. limits_more side (bids_of os) i v qs m (sym (ap (λ z. z.limit) same)) fits one inv.1 l (omega (arith, long))),

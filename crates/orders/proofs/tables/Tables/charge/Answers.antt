@@ -10,8 +10,8 @@ charged-account-requires c =
     let g = gone_small t.orders t.count t.ordered in
     record { pays = omega (arith, c.requires.pays, g); gets = omega (arith, c.requires.gets, g) }
 
-pub invariant-of-self : goal.invariant-of-self
-invariant-of-self c =
+pub invariant_of-self : goal.invariant_of-self
+invariant_of-self c =
     let t = c.args.self.now in
     let l = c.args.line in
     let old = get_or t.accounts l.member no_account in

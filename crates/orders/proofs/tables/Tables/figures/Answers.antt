@@ -15,6 +15,6 @@ returns c =
     let long : length os ≡ t.count = length-take-le t.count t.orders (omega (arith, t.ordered.0, t.ordered.1)) in
     let all = figures_of_orders (bids_of os) (on_ticks os (λ k l. sound_take t.orders t.count t.ordered.2 k (omega arith))) in
     record {
-      demand = c.from-limits.ensures.demand ∙ ap (λ z. figures highest_tick (summed true z)) c.at-limits.ensures ∙ all.0;
-      supply = c.from-limits.ensures.supply ∙ ap (λ z. figures highest_tick (summed false z)) c.at-limits-2.ensures ∙ all.1;
+      demand = c.from_limits.ensures.demand ∙ ap (λ z. figures highest_tick (summed true z)) c.at_limits.ensures ∙ all.0;
+      supply = c.from_limits.ensures.supply ∙ ap (λ z. figures highest_tick (summed false z)) c.at_limits-2.ensures ∙ all.1;
     }

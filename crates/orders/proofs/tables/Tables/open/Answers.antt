@@ -5,8 +5,8 @@ use Rattle.orders.specs.Settlement.{member_places, no_account}
 use Rattle.orders.specs.Kept.{most_lines, no_line}
 use Rattle.orders.proofs.tables.Tables.open.Goals as goal
 
-pub invariant-of-result : goal.invariant-of-result
-invariant-of-result c = (
+pub invariant_of-result : goal.invariant_of-result
+invariant_of-result c = (
   (length-replicate most_orders no_order, lit≤ tt, λ k h. absurd (omega arith)),
   (
     (length-replicate most_lines no_line, lit≤ tt, λ k h. absurd (omega arith)),

@@ -37,8 +37,8 @@ charge-requires c =
       gets = omega (arith, t.owed.2 l.member m', w, g, g', d, size, ap (λ z. (account z.accounts l.member).gets) filled);
     }
 
-pub push-line-requires : goal.push-line-requires
-push-line-requires c =
+pub push_line-requires : goal.push_line-requires
+push_line-requires c =
     let t = c.args.self.now in
     let k = c.args.place in
     let l = c.line-line.result in
@@ -65,6 +65,6 @@ returns c =
     let line : l ≡ line_of (at s.orders k) q p (length s.lines) =
     c.line-line.ensures ∙ ap (λ z. line_of z q p t.made) (sym same) ∙ ap (line_of (at s.orders k) q p) (sym long) in
     let number = ap (λ z. z.number) same ∙ (sound_parts k o (t.ordered.2 k c.requires.there)).number in
-    c.push-line.ensures
+    c.push_line.ensures
     ∙ ap (with_line l) (c.charge.ensures ∙ ap (with_charge l) c.apply.ensures)
     ∙ traded_is k q p s l line number

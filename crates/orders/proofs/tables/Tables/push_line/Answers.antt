@@ -5,8 +5,8 @@ use Rattle.orders.proofs.Keeps.{lines_more}
 use Rattle.orders.proofs.Sessions.{same_session}
 use Rattle.orders.proofs.tables.Tables.push_line.Goals as goal
 
-pub invariant-of-self : goal.invariant-of-self
-invariant-of-self c =
+pub invariant_of-self : goal.invariant_of-self
+invariant_of-self c =
     let t = c.args.self.now in
     let long : length (take t.made t.lines) ≡ t.made = length-take-le t.made t.lines (omega (arith, t.lined.0, t.lined.1)) in
     let room : t.made < most_lines = omega (arith, c.requires.room) in

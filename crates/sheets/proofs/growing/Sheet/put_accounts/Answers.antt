@@ -5,7 +5,7 @@ use Rattle.sheets.proofs.growing.Sheet.put_accounts.Goals as goal
 pub loop-member-preserved : goal.loop-member-preserved
 loop-member-preserved g c =
     accounts_more c.loop-member.self.traded _ _ _ c.loop-member.member _ _ _ c.loop-member-test.true c.loop-member.invariant.1
-    c.put-member.ensures.marks c.in-ok-put-member.ensures.text c.loop-member.invariant.0
+    c.put_member.ensures.marks c.in_ok-put_member.ensures.text c.loop-member.invariant.0
 
 pub returns : goal.returns
 unfolding accounts_text

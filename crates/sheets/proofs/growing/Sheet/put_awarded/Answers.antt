@@ -7,6 +7,6 @@ use Rattle.sheets.proofs.growing.Sheet.put_awarded.Goals as goal
 
 pub returns : goal.returns
 returns g c =
-    IfOk-weaker c.put-lines.result _ _
+    IfOk-weaker c.put_lines.result _ _
     (λ x q. row_and_lines _ _ (round_row (outcome_of c.args.awarded.now)) _ _ _ c.lines.ensures.is (search rules) refl q)
-    c.put-lines.ensures
+    c.put_lines.ensures

@@ -4,8 +4,8 @@ use Rattle.ticks.specs.Ticks.{highest_tick}
 use Rattle.ticks.proofs.Limits.{summed_falls, summed_rises}
 use Rattle.ticks.proofs.figures.Figures.from_limits.Goals as goal
 
-pub invariant-of-result : goal.invariant-of-result
-invariant-of-result c = (
+pub invariant_of-result : goal.invariant_of-result
+invariant_of-result c = (
   rw c.falling.ensures (summed_falls c.args.wanted.now),
   (
     rw c.rising.ensures (summed_rises c.args.offered.now),

@@ -16,12 +16,12 @@ returns g c =
     let G = marginal_group side m os in
     let buf = c.gather-count.new.group in
     let sh = c.share.new.group in
-    let amount = c.saturating-sub-amount.result in
+    let amount = c.saturating_sub-amount.result in
     let same : n - 0 ≡ n = omega arith in
     let is : take (n - 0) buf ≡ G = ap (λ k. take k buf) same ∙ c.gather-count.ensures.group in
     let made : sh ≡ share amount G = c.share.ensures ∙ ap (share amount) is in
     let long : length sh ≡ length G = ap length made ∙ g.met.R.SharingRule.shares.whole amount G in
-    let rest : amount ≡ c.args.volume - ahead_of side D S m = omega (arith, c.saturating-sub-amount.ensures, c.ahead.ensures) in
+    let rest : amount ≡ c.args.volume - ahead_of side D S m = omega (arith, c.saturating_sub-amount.ensures, c.ahead.ensures) in
     record {
       limit = c.margin-limit.ensures;
       shares = take_at sh (drop (n - 0) buf) (length G) long ∙ made ∙ ap (λ z. share z G) rest;

@@ -4,6 +4,6 @@ use Rattle.ticks.specs.Ticks.{highest_tick}
 use Rattle.uniform.proofs.Standing.{highest_tick_le}
 use Rattle.uniform.proofs.side.BuyingRoundSide.margin.Goals as goal
 
-pub invariant-of-result : goal.invariant-of-result
-invariant-of-result c =
+pub invariant_of-result : goal.invariant_of-result
+invariant_of-result c =
     (omega (arith, c.highest_tick.ensures, highest_tick_le highest_tick (λ p. leb c.args.volume (curve c.args.figures.now.demand p))), tt)
