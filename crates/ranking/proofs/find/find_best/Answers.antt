@@ -2,12 +2,12 @@ use Rattle.std.proofs.Common.{◌≡◌, Some, None, ap, arith, rules}
 use Rattle.ranking.specs.Best.{best_of, place_of}
 use Rattle.ranking.proofs.Bests.{best_more, best_found}
 use Rattle.ranking.proofs.find.find_best.Goals as goal
-use Rattle.ranking.proofs.find.find_best.Goals.{in-Some+then-is-leading, in-Some+else-is-leading, in-default}
+use Rattle.ranking.proofs.find.find_best.Goals.{in-Some+then-is_leading, in-Some+else-is_leading, in_default}
 
 pub loop-place-preserved : goal.loop-place-preserved
 loop-place-preserved g c =
     let more = best_more g.T.Ranked.ahead c.loop-place.place (g.S.Places.thing c.args.table.now) in
-    elim c.match-at.branch [ in-Some+then-is_leading w ↦ search rules | in-Some+else-is_leading w ↦ search rules | in-default w ↦ search rules ]
+    elim c.match-at.branch [ in-Some+then-is_leading w ↦ search rules | in-Some+else-is_leading w ↦ search rules | in_default w ↦ search rules ]
 
 pub returns-in-Some-best : goal.returns-in-Some-best
 returns-in-Some-best g c =

@@ -12,7 +12,7 @@ use Rattle.steps.specs.Ways.{Way}
 use Rattle.sheets.specs.Calls.{call_of, calls_of}
 use Rattle.sheets.proofs.SoFar.{SoFar, so_far_start, so_far_turn, so_far_whole, round_told}
 use Rattle.sheets.proofs.batch.run.Goals as goal
-use Rattle.sheets.proofs.batch.run.Goals.{in-Place+in-ok-place, in-Withdraw+in-ok-withdraw, in-Round+in-ok-put-awarded}
+use Rattle.sheets.proofs.batch.run.Goals.{in-Place+in_ok-place, in-Withdraw+in_ok-withdraw, in-Round+in_ok-put_awarded}
 
 pub loop-next-init : goal.loop-next-init
 loop-next-init g c =

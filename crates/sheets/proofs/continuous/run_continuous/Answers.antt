@@ -11,7 +11,7 @@ use Rattle.sheets.specs.Growing.{Told}
 use Rattle.sheets.specs.Calls.{call_of, calls_of, is_round, NoRounds}
 use Rattle.sheets.proofs.SoFar.{SoFar, so_far_start, so_far_turn, so_far_whole}
 use Rattle.sheets.proofs.continuous.run_continuous.Goals as goal
-use Rattle.sheets.proofs.continuous.run_continuous.Goals.{in-Place+in-ok-place, in-Withdraw+in-ok-withdraw, in-Round}
+use Rattle.sheets.proofs.continuous.run_continuous.Goals.{in-Place+in_ok-place, in-Withdraw+in_ok-withdraw, in-Round}
 
 pub loop-next-init : goal.loop-next-init
 loop-next-init g c =

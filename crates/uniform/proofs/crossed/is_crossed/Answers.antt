@@ -2,7 +2,7 @@ use Rattle.std.proofs.Common.{◌≡◌, ℕ, ◌+◌, ◌<◌, min, max, length
 use Rattle.orders.specs.Orders.{at, buys, is_standing}
 use Rattle.uniform.proofs.Scans.{Scanned, scanned_none, scanned_buy, scanned_sell, scanned_other, scanned_all}
 use Rattle.uniform.proofs.crossed.is_crossed.Goals as goal
-use Rattle.uniform.proofs.crossed.is_crossed.Goals.{in-Standing-Buy, in-Standing-Sell, in-default}
+use Rattle.uniform.proofs.crossed.is_crossed.Goals.{in-Standing-Buy, in-Standing-Sell, in_default}
 
 pub loop-order-init : goal.loop-order-init
 loop-order-init c = scanned_none c.args.orders.now
@@ -27,7 +27,7 @@ loop-order-preserved c =
           subst (λ (z : ℕ). Scanned os (i + 1) z c.match-order.lowest_sell) (sym w.above_buys-is)
           (subst (λ (z : ℕ). Scanned os (i + 1) a z) (sym low)
           (scanned_sell os i lt sound a l was (ap is_standing w.in-Standing-Sell.is-0) (ap buys w.in-Standing-Sell.is-1)))
-      | in-default w ↦ let h = w.in-default in
+      | in_default w ↦ let h = w.in_default in
           subst (λ (z : ℕ). Scanned os (i + 1) z c.match-order.lowest_sell) (sym w.above_buys-is)
           (subst (λ (z : ℕ). Scanned os (i + 1) a z) (sym w.lowest_sell-is)
           (scanned_other os i lt sound a l was (search rules)))

@@ -3,7 +3,7 @@ use Rattle.std.proofs.lemmas.List.{take_all}
 use Rattle.uniform.specs.Margins.{marginal_group}
 use Rattle.uniform.proofs.Gathered.{Gathered, gathered_yes, gathered_no}
 use Rattle.uniform.proofs.margin.gather.Goals as goal
-use Rattle.uniform.proofs.margin.gather.Goals.{then-stands-at, else-stands-at}
+use Rattle.uniform.proofs.margin.gather.Goals.{then-stands_at, else-stands_at}
 
 pub loop-order-preserved : goal.loop-order-preserved
 loop-order-preserved g c =
@@ -16,11 +16,11 @@ loop-order-preserved g c =
     let qs = c.loop-order.group in
     let fits : n < length qs = omega (arith, c.loop-order.invariant.1) in
     elim c.if-stands_at.branch [
-      | then-stands-at w ↦
+      | then-stands_at w ↦
           subst (λ (z : ℕ). Gathered side l os i lt (i + 1) z c.if-stands_at.group) (sym w.count-is)
           (subst (λ (z : List ℕ). Gathered side l os i lt (i + 1) (n + 1) z) (sym w.group-is)
           (gathered_yes side l os i lt n qs fits (sym c.stands_at.ensures ∙ w.if-stands_at.true) c.loop-order.invariant))
-      | else-stands-at w ↦
+      | else-stands_at w ↦
           subst (λ (z : ℕ). Gathered side l os i lt (i + 1) z c.if-stands_at.group) (sym w.count-is)
           (subst (λ (z : List ℕ). Gathered side l os i lt (i + 1) n z) (sym w.group-is)
           (gathered_no side l os i lt n qs (sym c.stands_at.ensures ∙ w.if-stands_at.false) c.loop-order.invariant))
