@@ -11,4 +11,6 @@ invariant_of-result c =
     let S = curve c.args.figures.now.supply in
     let found : c.lowest_tick.result ≡ lowest (suc highest_tick) (trades highest_tick D S) =
     c.lowest_tick.ensures.is ∙ ap (λ (v : ℕ). lowest (suc highest_tick) (λ p. eqb (executable D S p) v)) c.volume-volume.ensures in
-    (omega (arith, found, clears_within highest_tick D S), tt)
+    record {
+      within = omega (arith, found, clears_within highest_tick D S);
+    }

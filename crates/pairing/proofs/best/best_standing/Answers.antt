@@ -32,7 +32,9 @@ invariant_of-result g c =
     let made = (g.met.Q.OrderQuote.from c.fields_of-order.result).1 in
     let same = ap g.Q.Quote.limit c.make-quote.ensures in
     let h = ap (λ (o : OrderFields). o.limit) c.fields_of-order.ensures in
-    (omega (arith, sound.limit, made, same, h, c.limit.ensures), tt)
+    record {
+      within = omega (arith, sound.limit, made, same, h, c.limit.ensures);
+    }
 
 pub returns : goal.returns
 returns g c =

@@ -17,4 +17,6 @@ pub overflow_add-middle-2 : goal.overflow_add-middle-2
 overflow_add-middle-2 c = omega (arith, ends c)
 
 pub invariant_of-result : goal.invariant_of-result
-invariant_of-result c = (omega (arith, ends c), tt)
+invariant_of-result c = record {
+  within = omega (arith, ends c);
+}

@@ -11,4 +11,6 @@ invariant_of-result c =
     let S = curve c.args.figures.now.supply in
     let least = c.least_unbalance-least.result in
     let tick = choice_is_tick highest_tick least (kept_ticks c.volume-volume.result least D S) D S c.args.reference.value in
-    (omega (arith, c.chosen.ensures), tt)
+    record {
+      within = omega (arith, c.chosen.ensures);
+    }

@@ -12,13 +12,11 @@ pub invariant_of-self : goal.invariant_of-self
 invariant_of-self c =
     let t = c.args.self.now in
     let new = c.numbered.result in
-    let sound = ap (sound_order t.count) c.numbered.ensures ∙ sound_new c.args.ask t.count c.requires.sound in (
-      orders_more t.orders t.count new t.ordered c.requires.room sound,
-      (
-        t.lined,
-        (accounts_more t.orders t.count new t.accounts t.ordered t.owed c.requires.room, tt),
-      ),
-    )
+    let sound = ap (sound_order t.count) c.numbered.ensures ∙ sound_new c.args.ask t.count c.requires.sound in record {
+      ordered = orders_more t.orders t.count new t.ordered c.requires.room sound;
+      lined = t.lined;
+      owed = accounts_more t.orders t.count new t.accounts t.ordered t.owed c.requires.room;
+    }
 
 pub returns : goal.returns
 returns c =

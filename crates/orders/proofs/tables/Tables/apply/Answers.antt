@@ -15,13 +15,11 @@ invariant_of-self c =
     let o = at t.orders i in
     let new = c.after-order.result in
     let lt : i < t.count = omega arith in
-    let more : gone o ≤ gone new = omega (arith, gone_event e o, ap gone c.after-order.ensures.is) in (
-      orders_set t.orders t.count i new t.ordered (c.after-order.ensures.sound i (t.ordered.2 i lt)),
-      (
-        t.lined,
-        (accounts_put t.orders t.count i new t.accounts t.ordered t.owed lt more, tt),
-      ),
-    )
+    let more : gone o ≤ gone new = omega (arith, gone_event e o, ap gone c.after-order.ensures.is) in record {
+      ordered = orders_set t.orders t.count i new t.ordered (c.after-order.ensures.sound i (t.ordered.2 i lt));
+      lined = t.lined;
+      owed = accounts_put t.orders t.count i new t.accounts t.ordered t.owed lt more;
+    }
 
 pub returns-then-place-self : goal.returns-then-place-self
 returns-then-place-self c =

@@ -15,18 +15,13 @@ invariant_of-self c =
     let t = c.args.self.now in
     let l = c.args.line in
     let old = get_or t.accounts l.member no_account in
-    let d = t.period.quarters in (
-      t.ordered,
-      (
-        t.lined,
-        (
-          accounts_set t.orders t.count l.member t.accounts c.charged-account.result t.owed
-              (omega (arith, ap (λ z. z.pays) c.charged-account.ensures, charged_pays d l old, c.requires.pays))
-              (omega (arith, ap (λ z. z.gets) c.charged-account.ensures, charged_gets d l old, c.requires.gets)),
-          tt,
-        ),
-      ),
-    )
+    let d = t.period.quarters in record {
+      ordered = t.ordered;
+      lined = t.lined;
+      owed = accounts_set t.orders t.count l.member t.accounts c.charged-account.result t.owed
+          (omega (arith, ap (λ z. z.pays) c.charged-account.ensures, charged_pays d l old, c.requires.pays))
+          (omega (arith, ap (λ z. z.gets) c.charged-account.ensures, charged_gets d l old, c.requires.gets));
+    }
 
 pub returns : goal.returns
 returns c =

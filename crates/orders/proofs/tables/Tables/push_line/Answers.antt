@@ -10,7 +10,11 @@ invariant_of-self c =
     let t = c.args.self.now in
     let long : length (take t.made t.lines) ≡ t.made = length-take-le t.made t.lines (omega (arith, t.lined.0, t.lined.1)) in
     let room : t.made < most_lines = omega (arith, c.requires.room) in
-    (t.ordered, (lines_more t.lines t.made c.args.line t.lined room c.requires.sound, (t.owed, tt)))
+    record {
+      ordered = t.ordered;
+      lined = lines_more t.lines t.made c.args.line t.lined room c.requires.sound;
+      owed = t.owed;
+    }
 
 pub returns : goal.returns
 returns c =

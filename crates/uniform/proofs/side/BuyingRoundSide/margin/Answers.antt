@@ -6,4 +6,6 @@ use Rattle.uniform.proofs.side.BuyingRoundSide.margin.Goals as goal
 
 pub invariant_of-result : goal.invariant_of-result
 invariant_of-result c =
-    (omega (arith, c.highest_tick.ensures, highest_tick_le highest_tick (λ p. leb c.args.volume (curve c.args.figures.now.demand p))), tt)
+    record {
+      within = omega (arith, c.highest_tick.ensures, highest_tick_le highest_tick (λ p. leb c.args.volume (curve c.args.figures.now.demand p)));
+    }
