@@ -34,7 +34,7 @@ pub fn uniform_rounds_are_fair<P: PriceRule, S: SharingRule>() -> u8
 
 /// Whatever rules rank and price pairs, paired rounds are fair.
 pub fn paired_rounds_are_fair<R: Ranking, P: PairPrice>() -> u8
-    ensures { FairRounds (Paired (pairs_of (order_rank Buy-as-Ranked.ahead Buy-as-OrderQuote.made) (order_rank Sell-as-Ranked.ahead Sell-as-OrderQuote.made) P.PairPrice.meaning)) }
+    ensures { FairRounds (Paired (pairs_of (order_rank R.Buy.Ranked.ahead R.Buy.OrderQuote.made) (order_rank R.Sell.Ranked.ahead R.Sell.OrderQuote.made) P.PairPrice.meaning)) }
 {
     orders_are_ranked::<R>()
 }
@@ -59,14 +59,14 @@ pub fn uniform_sessions_hold<P: PriceRule, S: SharingRule>() -> u8
 
 /// So it is of paired sessions, whatever rules rank and price pairs.
 pub fn paired_sessions_hold<R: Ranking, P: PairPrice>() -> u8
-    ensures { HistoriesHold (Paired (pairs_of (order_rank Buy-as-Ranked.ahead Buy-as-OrderQuote.made) (order_rank Sell-as-Ranked.ahead Sell-as-OrderQuote.made) P.PairPrice.meaning)) }
+    ensures { HistoriesHold (Paired (pairs_of (order_rank R.Buy.Ranked.ahead R.Buy.OrderQuote.made) (order_rank R.Sell.Ranked.ahead R.Sell.OrderQuote.made) P.PairPrice.meaning)) }
 {
     orders_are_ranked::<R>()
 }
 
 /// So it is of continuous sessions, whatever rules rank and price pairs.
 pub fn continuous_sessions_hold<R: Ranking, P: PairPrice>() -> u8
-    ensures { HistoriesHold (Continuous (pairs_of (order_rank Buy-as-Ranked.ahead Buy-as-OrderQuote.made) (order_rank Sell-as-Ranked.ahead Sell-as-OrderQuote.made) P.PairPrice.meaning)) }
+    ensures { HistoriesHold (Continuous (pairs_of (order_rank R.Buy.Ranked.ahead R.Buy.OrderQuote.made) (order_rank R.Sell.Ranked.ahead R.Sell.OrderQuote.made) P.PairPrice.meaning)) }
 {
     orders_are_ranked::<R>()
 }

@@ -32,7 +32,7 @@ struct Meeting {
 /// The best buy and the best sell, where their limits meet.
 fn best_pair<R: Ranking, P: PairPrice>(orders: &[Order], price: &P) -> Option<Meeting>
     requires { Sound orders.now (length orders.now) }
-    ensures { MatchOption result (best_pair (pairs_of Buy-as-Ranked.ahead Buy-as-OrderQuote.made Sell-as-Ranked.ahead Sell-as-OrderQuote.made P.PairPrice.meaning) orders.now ≡ None) (λ p. BestPair (pairs_of Buy-as-Ranked.ahead Buy-as-OrderQuote.made Sell-as-Ranked.ahead Sell-as-OrderQuote.made P.PairPrice.meaning) orders.now p) }
+    ensures { MatchOption result (best_pair (pairs_of R.Buy.Ranked.ahead R.Buy.OrderQuote.made R.Sell.Ranked.ahead R.Sell.OrderQuote.made P.PairPrice.meaning) orders.now ≡ None) (λ p. BestPair (pairs_of R.Buy.Ranked.ahead R.Buy.OrderQuote.made R.Sell.Ranked.ahead R.Sell.OrderQuote.made P.PairPrice.meaning) orders.now p) }
 {
     let buy = best_standing::<R::Buy>(orders, Side::Buy)?;
     let sell = best_standing::<R::Sell>(orders, Side::Sell)?;
@@ -50,8 +50,8 @@ fn best_pair<R: Ranking, P: PairPrice>(orders: &[Order], price: &P) -> Option<Me
 /// Pairs the best standing buy with the best standing sell while their limits meet, and answers what was bought.
 /// Both are searched for again after each trade, since a ranking may read what an order has left.
 pub fn pair<R: Ranking, P: PairPrice>(tables: &mut Tables, price: &P) -> u64
-    ensures after { session_of tables.new ≡ settled (pair_lines (pairs_of Buy-as-Ranked.ahead Buy-as-OrderQuote.made Sell-as-Ranked.ahead Sell-as-OrderQuote.made P.PairPrice.meaning) (session_of tables.old).orders) (session_of tables.old) }
-    ensures volume { result ≡ bought (pair_lines (pairs_of Buy-as-Ranked.ahead Buy-as-OrderQuote.made Sell-as-Ranked.ahead Sell-as-OrderQuote.made P.PairPrice.meaning) (session_of tables.old).orders) }
+    ensures after { session_of tables.new ≡ settled (pair_lines (pairs_of R.Buy.Ranked.ahead R.Buy.OrderQuote.made R.Sell.Ranked.ahead R.Sell.OrderQuote.made P.PairPrice.meaning) (session_of tables.old).orders) (session_of tables.old) }
+    ensures volume { result ≡ bought (pair_lines (pairs_of R.Buy.Ranked.ahead R.Buy.OrderQuote.made R.Sell.Ranked.ahead R.Sell.OrderQuote.made P.PairPrice.meaning) (session_of tables.old).orders) }
     ensures uncrossed { Uncrossed (session_of tables.new).orders }
 {
     tables.clear_lines();

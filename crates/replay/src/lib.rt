@@ -62,7 +62,7 @@ pub enum Deal {
 
 /// Makes one call of a continuous session. A refused call leaves it as it was.
 pub fn make_deal<R: Ranking, P: PairPrice>(session: &mut Continuous<R, P>, deal: Deal)
-    ensures session { session_of session.new.tables ≡ (step (ContinuousWay (pairs_of Buy-as-Ranked.ahead Buy-as-OrderQuote.made Sell-as-Ranked.ahead Sell-as-OrderQuote.made P.PairPrice.meaning)) (session_of session.old.tables) (call_of deal)).1 }
+    ensures session { session_of session.new.tables ≡ (step (ContinuousWay (pairs_of R.Buy.Ranked.ahead R.Buy.OrderQuote.made R.Sell.Ranked.ahead R.Sell.OrderQuote.made P.PairPrice.meaning)) (session_of session.old.tables) (call_of deal)).1 }
     ensures rules { session.new.price ≡ session.old.price }
 {
     match deal {
@@ -81,9 +81,9 @@ pub fn replay_continuous<R: Ranking, P: PairPrice>(
     price: P,
     deals: &[Deal],
 ) -> Continuous<R, P>
-    ensures run { session_of result.tables ≡ (run (ContinuousWay (pairs_of Buy-as-Ranked.ahead Buy-as-OrderQuote.made Sell-as-Ranked.ahead Sell-as-OrderQuote.made P.PairPrice.meaning)) figures.period.quarters (map call_of deals.now)).session }
+    ensures run { session_of result.tables ≡ (run (ContinuousWay (pairs_of R.Buy.Ranked.ahead R.Buy.OrderQuote.made R.Sell.Ranked.ahead R.Sell.OrderQuote.made P.PairPrice.meaning)) figures.period.quarters (map call_of deals.now)).session }
     ensures rules { result.price ≡ price }
-    ensures holds { Holds (ContinuousWay (pairs_of Buy-as-Ranked.ahead Buy-as-OrderQuote.made Sell-as-Ranked.ahead Sell-as-OrderQuote.made P.PairPrice.meaning)) figures.period.quarters (run (ContinuousWay (pairs_of Buy-as-Ranked.ahead Buy-as-OrderQuote.made Sell-as-Ranked.ahead Sell-as-OrderQuote.made P.PairPrice.meaning)) figures.period.quarters (map call_of deals.now)) }
+    ensures holds { Holds (ContinuousWay (pairs_of R.Buy.Ranked.ahead R.Buy.OrderQuote.made R.Sell.Ranked.ahead R.Sell.OrderQuote.made P.PairPrice.meaning)) figures.period.quarters (run (ContinuousWay (pairs_of R.Buy.Ranked.ahead R.Buy.OrderQuote.made R.Sell.Ranked.ahead R.Sell.OrderQuote.made P.PairPrice.meaning)) figures.period.quarters (map call_of deals.now)) }
 {
     continuous_sessions_hold::<R, P>();
     let mut session = Continuous::open(figures, price);

@@ -52,7 +52,7 @@ impl<R: Ranking, P: PairPrice> PairedRules<R, P> {
 }
 
 impl<R: Ranking, P: PairPrice> Auction for PairedRules<R, P> {
-    ghost way = { λ _. PairedWay (pairs_of Buy-as-Ranked.ahead Buy-as-OrderQuote.made Sell-as-Ranked.ahead Sell-as-OrderQuote.made P.PairPrice.meaning) };
+    ghost way = { λ _. PairedWay (pairs_of R.Buy.Ranked.ahead R.Buy.OrderQuote.made R.Sell.Ranked.ahead R.Sell.OrderQuote.made P.PairPrice.meaning) };
 
     fn vouch(&self) {}
 

@@ -82,7 +82,7 @@ impl<R: Ranking, P: PairPrice> Continuous<R, P> {
 
     /// Places an order, which trades at once as far as it may: its number, and what of it was killed.
     pub fn place(&mut self, ask: Ask) -> Result<Acceptance, Refusal>
-        ensures answer { ◌≡◌ {A = Answers Accepting Why × Session} (result, session_of self.new.tables) (place (ContinuousWay (pairs_of Buy-as-Ranked.ahead Buy-as-OrderQuote.made Sell-as-Ranked.ahead Sell-as-OrderQuote.made P.PairPrice.meaning)) ask (session_of self.old.tables)) }
+        ensures answer { ◌≡◌ {A = Answers Accepting Why × Session} (result, session_of self.new.tables) (place (ContinuousWay (pairs_of R.Buy.Ranked.ahead R.Buy.OrderQuote.made R.Sell.Ranked.ahead R.Sell.OrderQuote.made P.PairPrice.meaning)) ask (session_of self.old.tables)) }
         ensures rules { self.new.price ≡ self.old.price }
     {
         if let Some(refusal) = desk::ask_refusal(&self.tables, ask, true) {

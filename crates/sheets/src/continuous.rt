@@ -29,8 +29,8 @@ fn place<R: Ranking, P: PairPrice>(
     number: usize,
     ask: Ask,
 ) -> Result<(), AllocError>
-    ensures sheet { OnOk result (Told number (step (ContinuousWay (pairs_of Buy-as-Ranked.ahead Buy-as-OrderQuote.made Sell-as-Ranked.ahead Sell-as-OrderQuote.made P.PairPrice.meaning)) (session_of session.old.tables) (Place ask)) sheet.old sheet.new) }
-    ensures session { session_of session.new.tables ≡ (step (ContinuousWay (pairs_of Buy-as-Ranked.ahead Buy-as-OrderQuote.made Sell-as-Ranked.ahead Sell-as-OrderQuote.made P.PairPrice.meaning)) (session_of session.old.tables) (Place ask)).1 }
+    ensures sheet { OnOk result (Told number (step (ContinuousWay (pairs_of R.Buy.Ranked.ahead R.Buy.OrderQuote.made R.Sell.Ranked.ahead R.Sell.OrderQuote.made P.PairPrice.meaning)) (session_of session.old.tables) (Place ask)) sheet.old sheet.new) }
+    ensures session { session_of session.new.tables ≡ (step (ContinuousWay (pairs_of R.Buy.Ranked.ahead R.Buy.OrderQuote.made R.Sell.Ranked.ahead R.Sell.OrderQuote.made P.PairPrice.meaning)) (session_of session.old.tables) (Place ask)).1 }
 {
     match session.place(ask) {
         Ok(_) => sheet.put_lines(session.lines()),
@@ -45,8 +45,8 @@ fn withdraw<R: Ranking, P: PairPrice>(
     number: usize,
     order: Withdrawal,
 ) -> Result<(), AllocError>
-    ensures sheet { OnOk result (Told number (step (ContinuousWay (pairs_of Buy-as-Ranked.ahead Buy-as-OrderQuote.made Sell-as-Ranked.ahead Sell-as-OrderQuote.made P.PairPrice.meaning)) (session_of session.old.tables) (Withdraw order.member order.number)) sheet.old sheet.new) }
-    ensures session { session_of session.new.tables ≡ (step (ContinuousWay (pairs_of Buy-as-Ranked.ahead Buy-as-OrderQuote.made Sell-as-Ranked.ahead Sell-as-OrderQuote.made P.PairPrice.meaning)) (session_of session.old.tables) (Withdraw order.member order.number)).1 }
+    ensures sheet { OnOk result (Told number (step (ContinuousWay (pairs_of R.Buy.Ranked.ahead R.Buy.OrderQuote.made R.Sell.Ranked.ahead R.Sell.OrderQuote.made P.PairPrice.meaning)) (session_of session.old.tables) (Withdraw order.member order.number)) sheet.old sheet.new) }
+    ensures session { session_of session.new.tables ≡ (step (ContinuousWay (pairs_of R.Buy.Ranked.ahead R.Buy.OrderQuote.made R.Sell.Ranked.ahead R.Sell.OrderQuote.made P.PairPrice.meaning)) (session_of session.old.tables) (Withdraw order.member order.number)).1 }
 {
     match session.withdraw(order.member, order.number) {
         Ok(_) => Ok(()),
@@ -63,7 +63,7 @@ pub(crate) fn run_continuous<R: Ranking + Drop, P: PairPrice + Drop>(
 ) -> Result<Vec<u8>, AllocError>
     requires few { length (entries book.rest.now) < 4096 }
     requires calls { NoRounds (entries book.rest.now) }
-    ensures { IfOk result (λ text. text.items ≡ history_text (run (ContinuousWay (pairs_of Buy-as-Ranked.ahead Buy-as-OrderQuote.made Sell-as-Ranked.ahead Sell-as-OrderQuote.made P.PairPrice.meaning)) figures.period.quarters (calls_of (entries book.entry.rest.now)))) }
+    ensures { IfOk result (λ text. text.items ≡ history_text (run (ContinuousWay (pairs_of R.Buy.Ranked.ahead R.Buy.OrderQuote.made R.Sell.Ranked.ahead R.Sell.OrderQuote.made P.PairPrice.meaning)) figures.period.quarters (calls_of (entries book.entry.rest.now)))) }
 {
     let mut book = book;
     let mut session: Continuous<R, P> = Continuous::open(figures, price);

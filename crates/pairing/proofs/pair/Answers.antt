@@ -18,7 +18,7 @@ loop-pair-init g c =
 
 pub loop-pair-smaller : goal.loop-pair-smaller
 loop-pair-smaller g c =
-    let rules : Pairs = pairs_of g.Buy.Ranked.ahead g.Buy.OrderQuote.made g.Sell.Ranked.ahead g.Sell.OrderQuote.made g.P.PairPrice.meaning in
+    let rules : Pairs = pairs_of g.R.Buy.Ranked.ahead g.R.Buy.OrderQuote.made g.R.Sell.Ranked.ahead g.R.Sell.OrderQuote.made g.P.PairPrice.meaning in
     let s = session_of c.clear_lines.new.self in
     let t = session_of c.loop-pair.tables in
     let pair = c.in-Some.pair in
@@ -29,7 +29,7 @@ loop-pair-smaller g c =
 
 pub loop-pair-preserved : goal.loop-pair-preserved
 loop-pair-preserved g c =
-    let rules : Pairs = pairs_of g.Buy.Ranked.ahead g.Buy.OrderQuote.made g.Sell.Ranked.ahead g.Sell.OrderQuote.made g.P.PairPrice.meaning in
+    let rules : Pairs = pairs_of g.R.Buy.Ranked.ahead g.R.Buy.OrderQuote.made g.R.Sell.Ranked.ahead g.R.Sell.OrderQuote.made g.P.PairPrice.meaning in
     let s = session_of c.clear_lines.new.self in
     let t = session_of c.loop-pair.tables in
     let pair = c.in-Some.pair in
@@ -41,16 +41,16 @@ loop-pair-preserved g c =
 
 pub returns : goal.returns
 returns g c =
-    let rules : Pairs = pairs_of g.Buy.Ranked.ahead g.Buy.OrderQuote.made g.Sell.Ranked.ahead g.Sell.OrderQuote.made g.P.PairPrice.meaning in
+    let rules : Pairs = pairs_of g.R.Buy.Ranked.ahead g.R.Buy.OrderQuote.made g.R.Sell.Ranked.ahead g.R.Sell.OrderQuote.made g.P.PairPrice.meaning in
     let began = session_of c.args.tables.now in
     let s = session_of c.clear_lines.new.self in
     let t = session_of c.loop-pair.tables in
     let f : SoFar rules s t = c.loop-pair.invariant.0 in
     let none : best_pair rules t.orders ≡ None = subst (λ os. best_pair rules os ≡ None) c.placed.ensures.is c.in_default.ensures in
-    let buys = order_law g.Buy.Ranked.mark g.Buy.Quote.limit g.Buy.Quote.left g.Buy.Ranked.ahead g.Buy.OrderQuote.made _ true
-    g.met.Buy.Ranked.ranks g.met.Buy.Quote.limits g.met.Buy.OrderQuote.from g.met.R.Ranking.sides.0 in
-    let sells = order_law g.Sell.Ranked.mark g.Sell.Quote.limit g.Sell.Quote.left g.Sell.Ranked.ahead g.Sell.OrderQuote.made _ false
-    g.met.Sell.Ranked.ranks g.met.Sell.Quote.limits g.met.Sell.OrderQuote.from g.met.R.Ranking.sides.1 in
+    let buys = order_law g.R.Buy.Ranked.mark g.R.Buy.Quote.limit g.R.Buy.Quote.left g.R.Buy.Ranked.ahead g.R.Buy.OrderQuote.made _ true
+    g.met.R.Buy.Ranked.ranks g.met.R.Buy.Quote.limits g.met.R.Buy.OrderQuote.from g.met.R.Ranking.sides.0 in
+    let sells = order_law g.R.Sell.Ranked.mark g.R.Sell.Quote.limit g.R.Sell.Quote.left g.R.Sell.Ranked.ahead g.R.Sell.OrderQuote.made _ false
+    g.met.R.Sell.Ranked.ranks g.met.R.Sell.Quote.limits g.met.R.Sell.OrderQuote.from g.met.R.Ranking.sides.1 in
     let u = session_of c.rank_lines.new.self in
     record {
       after = settled_all rules began s t u c.clear_lines.ensures f none c.rank_lines.ensures;

@@ -9,7 +9,7 @@ use Rattle.pairing.proofs.pair.Given as goal
 
 abbrev pub invariant-loop-pair : goal.invariant-loop-pair
 invariant-loop-pair g l =
-    let rules : Pairs = pairs_of g.Buy.Ranked.ahead g.Buy.OrderQuote.made g.Sell.Ranked.ahead g.Sell.OrderQuote.made g.P.PairPrice.meaning in
+    let rules : Pairs = pairs_of g.R.Buy.Ranked.ahead g.R.Buy.OrderQuote.made g.R.Sell.Ranked.ahead g.R.Sell.OrderQuote.made g.P.PairPrice.meaning in
     SoFar rules (session_of l.initial.tables) (session_of l.tables) × (l.volume ≡ bought (session_of l.tables).lines)
 
 abbrev pub decreases-loop-pair : goal.decreases-loop-pair

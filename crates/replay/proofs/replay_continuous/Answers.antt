@@ -12,7 +12,7 @@ loop-deal-init g c = (refl, refl)
 
 pub loop-deal-preserved : goal.loop-deal-preserved
 loop-deal-preserved g c =
-    let w = Continuous (pairs_of g.Buy.Ranked.ahead g.Buy.OrderQuote.made g.Sell.Ranked.ahead g.Sell.OrderQuote.made g.P.PairPrice.meaning) in
+    let w = Continuous (pairs_of g.R.Buy.Ranked.ahead g.R.Buy.OrderQuote.made g.R.Sell.Ranked.ahead g.R.Sell.OrderQuote.made g.P.PairPrice.meaning) in
     let made = c.make_deal.ensures in (
       after_more call_of w w _ (session_of c.loop-deal.session.tables) _ c.args.deals.now c.loop-deal.deal-index (Place no_ask)
           c.loop-deal-test.true refl c.loop-deal.invariant.0 made.session,
@@ -21,7 +21,7 @@ loop-deal-preserved g c =
 
 pub returns : goal.returns
 returns g c =
-    let w = Continuous (pairs_of g.Buy.Ranked.ahead g.Buy.OrderQuote.made g.Sell.Ranked.ahead g.Sell.OrderQuote.made g.P.PairPrice.meaning) in
+    let w = Continuous (pairs_of g.R.Buy.Ranked.ahead g.R.Buy.OrderQuote.made g.R.Sell.Ranked.ahead g.R.Sell.OrderQuote.made g.P.PairPrice.meaning) in
     let period = c.args.figures.period.quarters in
     let deals = c.args.deals.now in
     let opened = c.open-session.ensures in

@@ -9,6 +9,6 @@ use Rattle.replay.proofs.replay_continuous.Given as goal
 abbrev pub invariant-loop-deal : goal.invariant-loop-deal
 invariant-loop-deal g l =
     (session_of l.session.tables
-    ≡ after call_of (Continuous (pairs_of g.Buy.Ranked.ahead g.Buy.OrderQuote.made g.Sell.Ranked.ahead g.Sell.OrderQuote.made g.P.PairPrice.meaning))
+    ≡ after call_of (Continuous (pairs_of g.R.Buy.Ranked.ahead g.R.Buy.OrderQuote.made g.R.Sell.Ranked.ahead g.R.Sell.OrderQuote.made g.P.PairPrice.meaning))
     (session_of l.initial.session.tables) (take l.deal-index l.deals))
     × (l.session.price ≡ l.initial.session.price)

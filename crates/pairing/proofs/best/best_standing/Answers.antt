@@ -8,7 +8,7 @@ use Rattle.pairing.proofs.best.best_standing.Goals as goal
 pub returns-in_err-place : goal.returns-in_err-place
 returns-in_err-place g c =
     let none = best_found_by g.Q.Ranked.ahead g.Q.OrderQuote.made (buys c.args.side) c.args.orders.now _ None c.find_best.ensures.is c.in_err-place.was in
-    rw c.from-residual.ensures none
+    rw c.from_residual.ensures none
 
 pub offset_bounds-orders-place : goal.offset_bounds-orders-place
 offset_bounds-orders-place g c =

@@ -20,7 +20,7 @@ loop-next-init g c =
 pub loop-next-preserved : goal.loop-next-preserved
 loop-next-preserved g c =
     let k = c.loop-next.number in
-    let way = Continuous (pairs_of g.Buy.Ranked.ahead g.Buy.OrderQuote.made g.Sell.Ranked.ahead g.Sell.OrderQuote.made g.P.PairPrice.meaning) in
+    let way = Continuous (pairs_of g.R.Buy.Ranked.ahead g.R.Buy.OrderQuote.made g.R.Sell.Ranked.ahead g.R.Sell.OrderQuote.made g.P.PairPrice.meaning) in
     let all = entries c.loop-next.book.rest.now in
     let rest = entries c.next.new.self.rest.now in
     let handed = c.in-Some.ensures.hands.0 in

@@ -9,7 +9,7 @@ use Rattle.sheets.proofs.continuous.run_continuous.Given as goal
 
 abbrev pub invariant-loop-next : goal.invariant-loop-next
 invariant-loop-next g l =
-    SoFar (Continuous (pairs_of g.Buy.Ranked.ahead g.Buy.OrderQuote.made g.Sell.Ranked.ahead g.Sell.OrderQuote.made g.P.PairPrice.meaning))
+    SoFar (Continuous (pairs_of g.R.Buy.Ranked.ahead g.R.Buy.OrderQuote.made g.R.Sell.Ranked.ahead g.R.Sell.OrderQuote.made g.P.PairPrice.meaning))
     (session_of l.initial.session.tables) (session_of l.session.tables)
     (calls_of (entries l.initial.book.rest.now)) (calls_of (entries l.book.rest.now)) (vec_items l.sheet.text) l.sheet.traded l.number
     × NoRounds (entries l.book.rest.now)

@@ -13,11 +13,11 @@ use Rattle.session.proofs.continuous.Continuous.place.Goals as goal
 use Rattle.session.proofs.continuous.Continuous.place.Goals.{then-trades, else-trades}
 
 pub returns-in-Some : goal.returns-in-Some
-returns-in-Some g c = record { answer = sym (place_refused (Continuous (pairs_of g.Buy.Ranked.ahead g.Buy.OrderQuote.made g.Sell.Ranked.ahead g.Sell.OrderQuote.made g.P.PairPrice.meaning)) c.args.ask (session_of c.args.self.now.tables) c.in-Some.refusal (sym c.in-Some.ensures)); rules = refl }
+returns-in-Some g c = record { answer = sym (place_refused (Continuous (pairs_of g.R.Buy.Ranked.ahead g.R.Buy.OrderQuote.made g.R.Sell.Ranked.ahead g.R.Sell.OrderQuote.made g.P.PairPrice.meaning)) c.args.ask (session_of c.args.self.now.tables) c.in-Some.refusal (sym c.in-Some.ensures)); rules = refl }
 
 pub returns : goal.returns
 returns g c =
-    let rules = pairs_of g.Buy.Ranked.ahead g.Buy.OrderQuote.made g.Sell.Ranked.ahead g.Sell.OrderQuote.made g.P.PairPrice.meaning in
+    let rules = pairs_of g.R.Buy.Ranked.ahead g.R.Buy.OrderQuote.made g.R.Sell.Ranked.ahead g.R.Sell.OrderQuote.made g.P.PairPrice.meaning in
     let ask = c.args.ask in
     let s = session_of c.args.self.now.tables in
     let t = session_of c.append.new.self in
