@@ -12,7 +12,7 @@ use Rattle.steps.specs.Ways.{Way}
 use Rattle.sheets.specs.Calls.{call_of, calls_of}
 use Rattle.sheets.proofs.SoFar.{SoFar, so_far_start, so_far_turn, so_far_whole, round_told}
 use Rattle.sheets.proofs.batch.run.Goals as goal
-use Rattle.sheets.proofs.batch.run.Goals.{in-Place+in_ok-place, in-Withdraw+in_ok-withdraw, in-Round+in_ok-put_awarded}
+use Rattle.sheets.proofs.batch.run.Goals.{in-Place+in_ok-place-in-Place, in-Withdraw+in_ok-withdraw-in-Withdraw, in-Round+in_ok-put_awarded-in-Round}
 
 pub loop-next-init : goal.loop-next-init
 loop-next-init g c =
@@ -33,29 +33,29 @@ loop-next-preserved g c =
     let s = session_of c.loop-next.session.tables in
     let told = c.loop-next.invariant.0 in
     elim c.match-entry.branch [
-      | in-Place+in_ok-place w ↦
+      | in-Place+in_ok-place-in-Place w ↦
           let asked = ap CallPlace w.ask_of.ensures in (
             so_far_turn _ (way c.loop-next.session.auction) _ s _ _ (calls_of all) (calls_of rest) _ c.loop-next.sheet _ _ k ways (at _ w.in-Place.is) w.sheet-is
-                (subst (λ (x : Call). Told k (step (way c.loop-next.session.auction) s x) c.loop-next.sheet w.place.new.sheet) asked w.in_ok-place.ensures.sheet)
+                (subst (λ (x : Call). Told k (step (way c.loop-next.session.auction) s x) c.loop-next.sheet w.place.new.sheet) asked w.in_ok-place-in-Place.ensures.sheet)
                 (ap (λ x. session_of x.tables) w.session-is ∙ w.place.ensures.session ∙ ap (λ x. (step (way c.loop-next.session.auction) s x).1) asked) told,
             ap (λ x. x.auction) w.session-is ∙ w.place.ensures.rules ∙ same,
             few,
           )
-      | in-Withdraw+in_ok-withdraw w ↦ (
+      | in-Withdraw+in_ok-withdraw-in-Withdraw w ↦ (
         so_far_turn _ (way c.loop-next.session.auction) _ s _ _ (calls_of all) (calls_of rest) _ c.loop-next.sheet _ _ k ways (at _ w.in-Withdraw.is) w.sheet-is
-            w.in_ok-withdraw.ensures.sheet
+            w.in_ok-withdraw-in-Withdraw.ensures.sheet
             (ap (λ x. session_of x.tables) w.session-is ∙ w.withdraw.ensures.session) told,
         ap (λ x. x.auction) w.session-is ∙ w.withdraw.ensures.rules ∙ same,
         few,
       )
-      | in-Round+in_ok-put_awarded w ↦
+      | in-Round+in_ok-put_awarded-in-Round w ↦
           let shut = w.shut.ensures in
           let awarded = w.award-awarded.ensures in
           let over = w.carry_over-session.ensures in
           let shut-way : way w.shut.result.auction ≡ way c.loop-next.session.auction = ap way shut.rules in
           let round_is = awarded.round ∙ ap (λ x. round x (session_of w.shut.result.tables)) shut-way ∙ ap (round (way c.loop-next.session.auction)) shut.session in (
             so_far_turn _ (way c.loop-next.session.auction) _ s _ _ (calls_of all) (calls_of rest) _ c.loop-next.sheet _ _ k ways (at _ w.in-Round.is) w.sheet-is
-                (round_told _ s (session_of w.award-awarded.result.tables) (outcome_of w.award-awarded.result) k _ _ round_is w.in_ok-put_awarded.ensures)
+                (round_told _ s (session_of w.award-awarded.result.tables) (outcome_of w.award-awarded.result) k _ _ round_is w.in_ok-put_awarded-in-Round.ensures)
                 (ap (λ x. session_of x.tables) w.session-is ∙ over.session ∙ ap (λ r. r.1) round_is) told,
             ap (λ x. x.auction) w.session-is ∙ over.rules ∙ awarded.rules ∙ shut.rules ∙ same,
             few,

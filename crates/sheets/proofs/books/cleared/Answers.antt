@@ -22,9 +22,9 @@ returns-in-1 c =
     let h = c.args.book.header in
     let told = ap (λ x. x.way) c.header.ensures in
     let z : h.way ≡ 1 = omega arith in
-    IfOk-weaker c.uniform-text_in-1.result _ _
+    IfOk-weaker c.uniform_text-in-1.result _ _
     (λ t q. text_of_way (Uniform principles (sharing_of h.sharing) c.args.figures.reference.value) (way_of h) c.args.figures.period.quarters h.period (calls_of (entries c.args.book.rest.now)) _ (ap (Uniform principles (sharing_of h.sharing)) c.requires.opens.1 ∙ sym (at_1 h z)) c.requires.opens.0 q)
-    c.uniform-text_in-1.ensures
+    c.uniform_text-in-1.ensures
 
 pub returns-in-2 : goal.returns-in-2
 returns-in-2 c =

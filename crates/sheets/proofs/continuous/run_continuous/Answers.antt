@@ -11,7 +11,7 @@ use Rattle.sheets.specs.Growing.{Told}
 use Rattle.sheets.specs.Calls.{call_of, calls_of, is_round, NoRounds}
 use Rattle.sheets.proofs.SoFar.{SoFar, so_far_start, so_far_turn, so_far_whole}
 use Rattle.sheets.proofs.continuous.run_continuous.Goals as goal
-use Rattle.sheets.proofs.continuous.run_continuous.Goals.{in-Place+in_ok-place, in-Withdraw+in_ok-withdraw, in-Round}
+use Rattle.sheets.proofs.continuous.run_continuous.Goals.{in-Place+in_ok-place-in-Place, in-Withdraw+in_ok-withdraw-in-Withdraw, in-Round}
 
 pub loop-next-init : goal.loop-next-init
 loop-next-init g c =
@@ -31,17 +31,17 @@ loop-next-preserved g c =
     let s = session_of c.loop-next.session.tables in
     let told = c.loop-next.invariant.0 in
     elim c.match-entry.branch [
-      | in-Place+in_ok-place w ↦
+      | in-Place+in_ok-place-in-Place w ↦
           let asked = ap CallPlace w.ask_of.ensures in (
             so_far_turn _ way _ s _ _ (calls_of all) (calls_of rest) _ c.loop-next.sheet _ _ k refl (ap calls_of (at _ w.in-Place.is)) w.sheet-is
-                (subst (λ (x : Call). Told k (step way s x) c.loop-next.sheet w.place.new.sheet) asked w.in_ok-place.ensures.sheet)
+                (subst (λ (x : Call). Told k (step way s x) c.loop-next.sheet w.place.new.sheet) asked w.in_ok-place-in-Place.ensures.sheet)
                 (ap (λ x. session_of x.tables) w.session-is ∙ w.place.ensures.session ∙ ap (λ x. (step way s x).1) asked) told,
             (placing _ w.in-Place.is).1,
             few,
           )
-      | in-Withdraw+in_ok-withdraw w ↦ (
+      | in-Withdraw+in_ok-withdraw-in-Withdraw w ↦ (
         so_far_turn _ way _ s _ _ (calls_of all) (calls_of rest) _ c.loop-next.sheet _ _ k refl (ap calls_of (at _ w.in-Withdraw.is)) w.sheet-is
-            w.in_ok-withdraw.ensures.sheet
+            w.in_ok-withdraw-in-Withdraw.ensures.sheet
             (ap (λ x. session_of x.tables) w.session-is ∙ w.withdraw.ensures.session) told,
         (placing _ w.in-Withdraw.is).1,
         few,
