@@ -1,15 +1,14 @@
 -- Values that fit come back from their words, and words that read come back from their values.
-use Rattle.std.proofs.Common.{◌≡◌, ℕ, ◌+◌, ◌*◌, ◌^◌, ◌<◌, Bool, true, false, cond, ◌&&◌, eqb, ltb, ◌⊎◌, List, [], ◌∷◌, ◌++◌, map, get_or, Some, None, Option, sym, refl, ap, ◌∙◌, inl, inr, ⊎_elim, arith}
-use Rattle.std.proofs.lemmas.Bool.{and_parts, ltb-true, eqb-true, eq-eqb}
+use Rattle.std.proofs.Common.{◌≡◌, ℕ, ◌+◌, ◌*◌, ◌^◌, ◌<◌, true, cond, eqb, ltb, ◌⊎◌, List, [], ◌∷◌, ◌++◌, get_or, sym, refl, ap, ◌∙◌, ⊎_elim, arith}
+use Rattle.std.proofs.lemmas.Bool.{and_parts, ltb-true, eq-eqb}
 use Rattle.std.proofs.lemmas.Bool.Decides.{nat_tests}
 use Rattle.packing.specs.Fields.{field, fields, width, pack, Fit}
 use Rattle.packing.proofs.Cuts.{fields_give_the_word, values_come_back, words_fit}
 use Rattle.book.specs.declared.values.Header.{Header}
 use Rattle.book.specs.declared.values.Entry.{Entry}
 use Rattle.book.specs.declared.values.Entry.TheVariants.{Place, Withdraw, Round}
-use Rattle.book.specs.declared.fault.Question.{Question}
 use Rattle.book.specs.declared.fault.Question.TheVariants.{Form, HeaderSpare, Length}
-use Rattle.book.specs.Format.{form, header_spare, count, kind, header_of, placement_of, withdrawal_of, entry_of, record_spare}
+use Rattle.book.specs.Format.{form, header_spare, count, kind, header_of, placement_of, withdrawal_of, entry_of}
 use Rattle.book.specs.Questions.{value_questions, word_questions, record_questions, first_no}
 use Rattle.book.specs.Writing.{header_widths, header_values, header_word, entry_widths, entry_values, entry_word, fits, header_fits, entry_fits}
 use Rattle.book.specs.Laws.{Passes}

@@ -1,5 +1,5 @@
 -- The round trip of whole books, both ways.
-use Rattle.std.proofs.Common.{◌≡◌, ℕ, zero, suc, ◌+◌, ◌-◌, ◌*◌, ◌/◌, ◌^◌, ◌<◌, ◌≤◌, Bool, true, false, cond, eqb, leb, List, [], ◌∷◌, ◌++◌, map, length, get_or, take, drop, Some, None, Ok, Err, Option, Result, sym, refl, ap, ◌∙◌, subst, arith, get_or-drop}
+use Rattle.std.proofs.Common.{◌≡◌, ℕ, zero, suc, ◌+◌, ◌*◌, ◌/◌, ◌^◌, ◌<◌, ◌≤◌, Bool, true, false, leb, List, [], ◌∷◌, ◌++◌, map, length, take, drop, Some, None, Ok, Err, Option, Result, sym, refl, ap, ◌∙◌, subst, arith, get_or-drop}
 use Rattle.std.specs.List.{flat_map, AllByRecursion as All}
 use Rattle.std.proofs.lemmas.List.{length-drop, take_at}
 use Rattle.std.proofs.lemmas.Bool.{leb-true, eqb-true, le-leb}
@@ -8,12 +8,12 @@ use Rattle.packing.proofs.Cuts.{values_come_back, words_fit, word_comes_back}
 use Rattle.book.specs.declared.values.Header.{Header}
 use Rattle.book.specs.declared.values.Entry.{Entry}
 use Rattle.book.specs.declared.fault.Question.{Question}
-use Rattle.book.specs.declared.fault.Question.TheVariants.{SixBytes, Fit, Room}
+use Rattle.book.specs.declared.fault.Question.TheVariants.{Fit, Room}
 use Rattle.book.specs.declared.fault.Fault.{Fault}
 use Rattle.book.specs.Format.{way, count, header_of, entry_of}
 use Rattle.book.specs.Questions.{header_questions, word_questions, value_questions, record_questions, first_no, fault, fault_or, first_fault}
 use Rattle.book.specs.Reading.{words, entries, with_records, with_header, read_book}
-use Rattle.book.specs.Writing.{header_word, entry_word, entry_bytes, encode, book_length, header_fits, entry_fits, fit_questions, read_questions, or_else, fault_of, write_fault}
+use Rattle.book.specs.Writing.{header_word, entry_word, entry_bytes, encode, book_length, header_fits, fit_questions, read_questions, or_else, fault_of, write_fault}
 use Rattle.book.specs.Laws.{Passes, Bytes, WrittenReadsBack, ReadIsOnlyWriting}
 use Rattle.book.proofs.Words.{words_step, length_entries}
 use Rattle.book.proofs.Faults.{passes, records_pass, header_asks}

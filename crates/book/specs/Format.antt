@@ -1,6 +1,6 @@
 -- The fields of the header and of the records, each by its first bit and its width, and the values that they hold.
-use Rattle.std.specs.Prelude.{ℕ, cond, List, [], ◌∷◌, ◌==◌}
-use Rattle.packing.specs.Fields.{field, pack}
+use Rattle.std.specs.Prelude.{ℕ, cond, ◌==◌}
+use Rattle.packing.specs.Fields.{field}
 use Rattle.book.specs.declared.values.Header.{Header}
 use Rattle.book.specs.declared.values.Placement.{Placement}
 use Rattle.book.specs.declared.values.Withdrawal.{Withdrawal}

@@ -1,5 +1,5 @@
 -- What reading a book gives.
-use Rattle.std.specs.Prelude.{◌≡◌, ℕ, zero, suc, ◌/◌, ◌<◌, List, [], ◌∷◌, map, length, drop, Some, None, Ok, Err, Option, Result}
+use Rattle.std.specs.Prelude.{ℕ, zero, suc, ◌/◌, List, [], ◌∷◌, map, length, drop, Some, None, Ok, Err, Option, Result}
 use Rattle.packing.specs.Fields.{word}
 use Rattle.book.specs.declared.values.Header.{Header}
 use Rattle.book.specs.declared.values.Entry.{Entry}
@@ -8,7 +8,7 @@ use Rattle.book.specs.declared.values.Record.{Record}
 use Rattle.book.specs.declared.values.Record.TheVariants.{Place as PlaceAt, Withdraw as WithdrawAt, Round as RoundAt}
 use Rattle.book.specs.declared.fault.Question.{Question}
 use Rattle.book.specs.declared.fault.Fault.{Fault}
-use Rattle.book.specs.Format.{way, kind, header_of, placement_of, withdrawal_of, entry_of}
+use Rattle.book.specs.Format.{way, header_of, placement_of, withdrawal_of, entry_of}
 use Rattle.book.specs.Questions.{header_questions, record_questions, first_no, first_fault, fault}
 
 -- the words of the first n records of some bytes

@@ -1,5 +1,5 @@
 -- What the questions of a call leave: its step.
-use Rattle.std.proofs.Common.{◌≡◌, ℕ, zero, suc, true, false, not, eqb, leb, List, [], ◌∷◌, length, take, drop, Some, None, Option, sym, refl, ap, ◌∙◌, arith}
+use Rattle.std.proofs.Common.{◌≡◌, ℕ, zero, suc, true, false, eqb, leb, List, [], ◌∷◌, length, take, drop, Some, None, Option, sym, refl, ap, ◌∙◌, arith}
 use Rattle.std.specs.List.{AllByRecursion as All}
 use Rattle.std.proofs.lemmas.Bool.{cond_both, cond-true, both_ways, and_parts, leb-true, ltb-true, le-leb}
 use Rattle.ticks.specs.Ticks.{highest_tick}

@@ -12,7 +12,7 @@ use Rattle.orders.specs.declared.order.Order.{Order}
 use Rattle.orders.specs.declared.order.Line.{Line}
 use Rattle.orders.specs.Orders.{buys, at, no_order, standing, filled_by}
 use Rattle.orders.specs.Settlement.{line_of, place_of, fill}
-use Rattle.steps.specs.Pairing.{Pairs, best_pair, pair_quantity, pair_price, buy_line, sell_line, after_pair, lines_of_pair, pair_lines_from, stands}
+use Rattle.steps.specs.Pairing.{Pairs, best_pair, pair_quantity, pair_price, buy_line, sell_line, after_pair, lines_of_pair, pair_lines_from}
 use Rattle.steps.specs.Ways.{PairsLaw}
 use Rattle.history.specs.Fairness.{Trade}
 use Rattle.history.proofs.Orders.{Good, changed_good, changed_long, filled_standing}

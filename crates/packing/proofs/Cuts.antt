@@ -1,8 +1,8 @@
 -- The laws of fields, each once over a list of widths.
-use Rattle.std.proofs.Common.{◌≡◌, ℕ, ◌+◌, ◌-◌, ◌*◌, ◌/◌, ◌%◌, ◌^◌, ◌<◌, ◌≤◌, eqb, ltb, List, [], ◌∷◌, length, get_or, sym, refl, ap, ◌∙◌, subst, inl, inr, add_assoc, mod-eq_of_lt, mul_assoc, add-mul, zero-mul, arith, pow_pos, pow_mono, pow-add}
+use Rattle.std.proofs.Common.{◌≡◌, ℕ, ◌+◌, ◌-◌, ◌*◌, ◌/◌, ◌%◌, ◌^◌, ◌<◌, ◌≤◌, eqb, ltb, List, [], ◌∷◌, length, sym, refl, ap, ◌∙◌, subst, inl, inr, add_assoc, mod-eq_of_lt, mul_assoc, add-mul, zero-mul, arith, pow_pos, pow_mono, pow-add}
 use Rattle.std.proofs.lemmas.Nat.{mod-pow-add, shr_high, mod_low, mod_below, mul-add-lt}
 use Rattle.std.proofs.lemmas.Bool.{cases_lt, lt-ltb, le-ltb, eq-eqb, ne_eqb}
-use Rattle.packing.specs.Fields.{field, fields, width, pack, Fit, six, front, word, bytes}
+use Rattle.packing.specs.Fields.{field, fields, width, pack, Fit, six, front}
 use Rattle.packing.specs.Laws.{FieldsGiveTheWord, ValuesComeBack, WordsFit, BytesComeBack, WordComesBack}
 
 -- the fields in the lowest bits of a number, by the width of what lies behind each

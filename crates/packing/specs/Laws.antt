@@ -1,6 +1,6 @@
 -- The laws of layouts: fields that fill the 48 bits of a word.
 use Rattle.std.specs.Prelude.{◌≡◌, ℕ, ◌^◌, ◌<◌, List, length, slice_index}
-use Rattle.packing.specs.Fields.{fields, width, pack, Fit, six, word, bytes}
+use Rattle.packing.specs.Fields.{fields, width, pack, Fit, word, bytes}
 
 -- the fields of a layout, put back in their places, give the word
 abbrev pub FieldsGiveTheWord : Type 0

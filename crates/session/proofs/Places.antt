@@ -1,5 +1,5 @@
 -- A place, by its questions and by what it does.
-use Rattle.std.proofs.Common.{◌≡◌, ℕ, suc, ◌≤◌, Bool, true, false, cond, not, ◌&&◌, ◌||◌, ltb, leb, List, [], ◌∷◌, ◌++◌, length, Some, None, Ok, Err, Option, Result, sym, refl, ap, ◌∙◌, subst, arith}
+use Rattle.std.proofs.Common.{◌≡◌, ℕ, suc, ◌≤◌, Bool, true, false, cond, not, ◌&&◌, ◌||◌, ltb, leb, List, [], ◌∷◌, ◌++◌, length, Some, None, Ok, Err, Option, refl, ap, ◌∙◌, subst, arith}
 use Rattle.std.proofs.lemmas.Bool.{le-leb, leb-true}
 use Rattle.orders.specs.declared.order.Ask.{Ask}
 use Rattle.orders.specs.Settlement.{Session, settled, cleared, with_orders}
@@ -16,7 +16,7 @@ use Rattle.steps.specs.declared.refusal.Refusal.TheVariants.{Kind as KindOf}
 use Rattle.steps.specs.Refusals.{Asked, first_no}
 use Rattle.steps.specs.Pairing.{Pairs, pair_lines}
 use Rattle.steps.specs.Ways.{Way, Continuous, is_continuous}
-use Rattle.steps.specs.Calls.{made, is_member, is_normal, some, opposes, may_trade, with_ask, lines_of_place, ask_questions, place_questions, closed, acceptance, placed, place}
+use Rattle.steps.specs.Calls.{made, is_member, is_normal, some, opposes, may_trade, with_ask, lines_of_place, ask_questions, closed, acceptance, placed, place}
 
 -- questions that are put in a row
 first_no_some : (xs ys : List Asked) (q : Refusal) → first_no xs ≡ Some q → first_no (xs ++ ys) ≡ Some q

@@ -1,14 +1,11 @@
 -- A sheet tells the history so far.
-use Rattle.std.proofs.Common.{◌≡◌, ℕ, zero, suc, ◌+◌, ◌<◌, ◌≤◌, Bool, true, false, cond, List, [], ◌∷◌, ◌++◌, length, Some, None, Ok, Err, vec_items, fold, Option, Result, sym, refl, ap, ◌∙◌, subst, append_assoc, append-nil, arith, length-append}
+use Rattle.std.proofs.Common.{◌≡◌, ℕ, zero, suc, ◌+◌, ◌<◌, ◌≤◌, Bool, cond, List, [], ◌∷◌, ◌++◌, length, Ok, Err, vec_items, fold, Result, sym, refl, ap, ◌∙◌, subst, append_assoc, append-nil, arith, length-append}
 use Rattle.std.specs.List.{flat_map}
 use Rattle.orders.specs.declared.order.Ask.{Ask}
-use Rattle.orders.specs.declared.order.Order.{Order}
-use Rattle.orders.specs.declared.order.Kind.{Kind}
-use Rattle.orders.specs.declared.order.Kind.TheVariants.{Normal, FillAndKill, FillOrKill}
 use Rattle.orders.specs.declared.order.Line.{Line}
 use Rattle.orders.specs.declared.order.Account.{Account}
 use Rattle.orders.specs.Orders.{last_member}
-use Rattle.orders.specs.Settlement.{Session, member_places, account, opening, ranked, settled, with_orders}
+use Rattle.orders.specs.Settlement.{Session, member_places, account, opening}
 use Rattle.orders.specs.Members.{has_line}
 use Rattle.steps.specs.declared.call.Call.{Call}
 use Rattle.steps.specs.declared.call.Call.TheVariants.{Place, Round}
@@ -16,10 +13,9 @@ use Rattle.steps.specs.declared.call.Outcome.{Outcome}
 use Rattle.steps.specs.declared.call.Acceptance.{Acceptance}
 use Rattle.steps.specs.declared.call.Answer.TheVariants.{Accepted}
 use Rattle.steps.specs.declared.refusal.Refusal.{Refusal}
-use Rattle.steps.specs.Refusals.{first_no}
-use Rattle.steps.specs.Ways.{Way, Uniform, Paired, Continuous, is_continuous, place_lines}
-use Rattle.steps.specs.Calls.{made, may_trade, with_ask, lines_of_place, place_questions, closed, placed, place, told, step, round}
-use Rattle.history.specs.Histories.{Event, History, lines_made, event_of, called, run, all_lines}
+use Rattle.steps.specs.Ways.{Way}
+use Rattle.steps.specs.Calls.{place, told, step, round}
+use Rattle.history.specs.Histories.{Event, History, event_of, called, run, all_lines}
 use Rattle.sheets.specs.declared.growing.Sheet.{Sheet}
 use Rattle.sheets.specs.Rows.{no_row, round_row, line_rows, account_row}
 use Rattle.sheets.specs.Sheet.{answer_text, events_text, account_piece, accounts_from, accounts_text, history_text}

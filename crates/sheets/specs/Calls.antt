@@ -17,7 +17,6 @@ use Rattle.orders.specs.declared.order.Kind.{Kind}
 use Rattle.orders.specs.declared.order.Kind.TheVariants.{Normal, FillAndKill, FillOrKill}
 use Rattle.steps.specs.declared.call.Call.{Call}
 use Rattle.steps.specs.declared.call.Call.TheVariants.{Place, Withdraw, Round}
-use Rattle.steps.specs.Pairing.{Pairs}
 use Rattle.steps.specs.Ways.{Way, Uniform, Paired, Continuous}
 
 -- 0 earliest first, 1 largest first, 2 pro rata

@@ -1,5 +1,5 @@
 -- The rows of a sheet.
-use Rattle.std.specs.Prelude.{ℕ, zero, suc, cond, List, [], ◌∷◌, ◌++◌, codes}
+use Rattle.std.specs.Prelude.{ℕ, List, [], ◌∷◌, codes}
 use Rattle.std.specs.List.{flat_map}
 use Rattle.text.specs.Rows.{row}
 use Rattle.book.specs.declared.fault.Fault.{Fault}

@@ -1,5 +1,5 @@
 -- Pairing: the best standing buy trades with the best standing sell while their limits meet.
-use Rattle.std.specs.Prelude.{◌≡◌, ℕ, zero, suc, ◌+◌, ◌<◌, min, Bool, true, false, cond, ◌&&◌, List, [], ◌∷◌, length, Some, None, sum_by, Option, nat_le, nat_lt}
+use Rattle.std.specs.Prelude.{◌≡◌, ℕ, zero, suc, ◌<◌, min, Bool, true, false, cond, ◌&&◌, List, [], ◌∷◌, length, Some, None, sum_by, Option, nat_le, nat_lt}
 use Rattle.curves.specs.Orders.{on}
 use Rattle.ranking.specs.declared.OrderFields.{OrderFields}
 use Rattle.ranking.specs.Orders.{OrderRank}

@@ -4,9 +4,9 @@ use Rattle.std.proofs.lemmas.Bool.{cases_lt, lt-ltb, le-ltb, eq-eqb, ne_eqb, ltb
 use Rattle.curves.specs.Sums.{lowest}
 use Rattle.curves.specs.Curves.{executable}
 use Rattle.curves.specs.Crossing.{before}
-use Rattle.curves.specs.Orders.{Bid, at, on, better, willing, demand, supply, clearing_volume, OnTicks}
+use Rattle.curves.specs.Orders.{Bid, at, better, willing, demand, supply, clearing_volume, OnTicks}
 use Rattle.curves.specs.Sharing.{SharingMeaning, SharingLaw}
-use Rattle.curves.specs.Filling.{ahead, group, share_of, filled}
+use Rattle.curves.specs.Filling.{ahead, share_of, filled}
 use Rattle.curves.proofs.Sums.{greatest_at, highest_ge, highest_passes, lowest_le, lowest_passes}
 use Rattle.curves.proofs.Orders.{willing_le_ahead, before_supply, demand_above, on_of_buys, orders_make_curves}
 use Rattle.curves.proofs.Filling.{fits_full, past_none, own_group}

@@ -1,4 +1,4 @@
-use Rattle.std.proofs.Common.{◌≡◌, map, refl, ◌∙◌}
+use Rattle.std.proofs.Common.{map, refl, ◌∙◌}
 use Rattle.orders.specs.Held.{session_of}
 use Rattle.pairing.specs.Quotes.{pairs_of}
 use Rattle.steps.specs.Ways.{Continuous}

@@ -1,4 +1,4 @@
-use Rattle.std.proofs.Common.{◌≡◌, sym, arith, below_more}
+use Rattle.std.proofs.Common.{sym, arith, below_more}
 use Rattle.orders.specs.Orders.{no_order}
 use Rattle.steps.specs.Calls.{opposes}
 use Rattle.session.proofs.Somes.{some_at, some_none}

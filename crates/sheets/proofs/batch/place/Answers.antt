@@ -1,4 +1,4 @@
-use Rattle.std.proofs.Common.{◌≡◌, sym, ap}
+use Rattle.std.proofs.Common.{ap}
 use Rattle.orders.specs.Held.{session_of}
 use Rattle.sheets.proofs.SoFar.{batch_place_told}
 use Rattle.sheets.proofs.batch.place.Goals as goal

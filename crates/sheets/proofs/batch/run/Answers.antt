@@ -1,16 +1,14 @@
-use Rattle.std.proofs.Common.{◌≡◌, ◌+◌, ◌≤◌, List, [], ◌∷◌, length, sym, refl, ap, ◌∙◌, subst, arith}
+use Rattle.std.proofs.Common.{◌≡◌, ◌+◌, ◌≤◌, ◌∷◌, length, sym, refl, ap, ◌∙◌, subst, arith}
 use Rattle.orders.specs.Held.{session_of}
 use Rattle.book.specs.declared.values.Entry.{Entry}
-use Rattle.book.specs.declared.values.Entry.TheVariants.{Place, Withdraw, Round}
 use Rattle.book.specs.Reading.{entries}
 use Rattle.session.specs.Awards.{outcome_of}
 use Rattle.steps.specs.declared.call.Call.{Call}
 use Rattle.steps.specs.declared.call.Call.TheVariants.{Place as CallPlace}
 use Rattle.steps.specs.Calls.{step, round}
 use Rattle.sheets.specs.Growing.{Told}
-use Rattle.steps.specs.Ways.{Way}
 use Rattle.sheets.specs.Calls.{call_of, calls_of}
-use Rattle.sheets.proofs.SoFar.{SoFar, so_far_start, so_far_turn, so_far_whole, round_told}
+use Rattle.sheets.proofs.SoFar.{so_far_start, so_far_turn, so_far_whole, round_told}
 use Rattle.sheets.proofs.batch.run.Goals as goal
 use Rattle.sheets.proofs.batch.run.Goals.{in-Place+in_ok-place-in-Place, in-Withdraw+in_ok-withdraw-in-Withdraw, in-Round+in_ok-put_awarded-in-Round}
 

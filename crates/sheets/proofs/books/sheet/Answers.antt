@@ -5,8 +5,8 @@ use Rattle.book.specs.declared.values.Entry.{Entry}
 use Rattle.book.specs.declared.fault.Fault.{Fault}
 use Rattle.book.specs.Reading.{entries, read_book}
 use Rattle.book.proofs.Fronts.{read_of_input}
-use Rattle.sheets.specs.Calls.{way_of, calls_of}
-use Rattle.sheets.specs.Sheet.{sheet_read, sheet_of, RightRead, Right}
+use Rattle.sheets.specs.Calls.{calls_of}
+use Rattle.sheets.specs.Sheet.{sheet_read, RightRead}
 use Rattle.sheets.proofs.Ways.{no_rounds}
 use Rattle.sheets.proofs.books.sheet.Goals as goal
 

@@ -1,4 +1,4 @@
-use Rattle.std.proofs.Common.{◌≡◌, ℕ, ◌+◌, ◌≤◌, false, List, [], ◌∷◌, length, sym, refl, ap, ◌∙◌, subst, arith}
+use Rattle.std.proofs.Common.{◌≡◌, ℕ, ◌+◌, ◌≤◌, List, ◌∷◌, length, sym, refl, ap, ◌∙◌, subst, arith}
 use Rattle.orders.specs.Held.{session_of}
 use Rattle.book.specs.declared.values.Entry.{Entry}
 use Rattle.book.specs.Reading.{entries}
@@ -8,8 +8,8 @@ use Rattle.steps.specs.declared.call.Call.TheVariants.{Place as CallPlace}
 use Rattle.steps.specs.Ways.{Continuous}
 use Rattle.steps.specs.Calls.{step}
 use Rattle.sheets.specs.Growing.{Told}
-use Rattle.sheets.specs.Calls.{call_of, calls_of, is_round, NoRounds}
-use Rattle.sheets.proofs.SoFar.{SoFar, so_far_start, so_far_turn, so_far_whole}
+use Rattle.sheets.specs.Calls.{calls_of, NoRounds}
+use Rattle.sheets.proofs.SoFar.{so_far_start, so_far_turn, so_far_whole}
 use Rattle.sheets.proofs.continuous.run_continuous.Goals as goal
 use Rattle.sheets.proofs.continuous.run_continuous.Goals.{in-Place+in_ok-place-in-Place, in-Withdraw+in_ok-withdraw-in-Withdraw, in-Round}
 

@@ -1,4 +1,4 @@
-use Rattle.std.proofs.Common.{refl, ap, ◌∙◌, rules}
+use Rattle.std.proofs.Common.{refl, ap, ◌∙◌}
 use Rattle.packing.specs.Fields.{word}
 use Rattle.book.specs.Format.{entry_of}
 use Rattle.book.proofs.Words.{entries_step}

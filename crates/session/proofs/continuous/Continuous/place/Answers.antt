@@ -1,4 +1,4 @@
-use Rattle.std.proofs.Common.{◌≡◌, suc, true, false, cond, length, None, Ok, sym, refl, ap, ◌∙◌}
+use Rattle.std.proofs.Common.{◌≡◌, suc, true, cond, length, None, Ok, sym, refl, ap, ◌∙◌}
 use Rattle.orders.specs.Settlement.{Session, settled, cleared}
 use Rattle.orders.specs.Held.{session_of}
 use Rattle.orders.specs.Changes.{accepted}

@@ -1,5 +1,5 @@
 use Rattle.std.proofs.Common.{◌≡◌, ◌-◌, ◌++◌, vec_items}
-use Rattle.sheets.specs.Sheet.{accounts_from, accounts_text}
+use Rattle.sheets.specs.Sheet.{accounts_from}
 use Rattle.sheets.specs.Growing.{marked}
 use Rattle.sheets.proofs.growing.Sheet.put_accounts.Given as goal
 

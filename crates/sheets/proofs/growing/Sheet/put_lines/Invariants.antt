@@ -1,4 +1,4 @@
-use Rattle.std.proofs.Common.{◌≡◌, ℕ, List, ◌++◌, take, drop, vec_items}
+use Rattle.std.proofs.Common.{◌≡◌, List, ◌++◌, take, drop, vec_items}
 use Rattle.orders.specs.declared.order.Line.{Line}
 use Rattle.sheets.specs.Rows.{line_rows}
 use Rattle.sheets.specs.Growing.{Marks}
