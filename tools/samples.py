@@ -135,4 +135,5 @@ def main(arguments):
     (DATA.parent / "stdout").write_text("".join(out))
 
 
-main(sys.argv[1:])
+if __name__ == "__main__":
+    main(sys.argv[1:])

@@ -2,7 +2,7 @@
 use Rattle.std.proofs.Common.{◌≡◌, ℕ, ◌+◌, ◌-◌, ◌<◌, ◌≤◌, true, false, cond, leb, List, [], ◌∷◌, length, get_or, take, drop, Some, None, Ok, Err, Option, sym, refl, ap, ◌∙◌, inl, inr, arith}
 use Rattle.std.proofs.lemmas.List.{at_drop_more, at_drop_all}
 use Rattle.std.proofs.lemmas.Bool.{cond-true, cond-false, le-leb, lt-leb}
-use Rattle.std.specs.List.{AllByRecursion as All}
+use Rattle.std.specs.List.{AllByRecursion}
 use Rattle.packing.specs.Fields.{word}
 use Rattle.book.specs.declared.values.Header.{Header}
 use Rattle.book.specs.declared.values.Entry.{Entry}
@@ -39,10 +39,10 @@ fails (a ∷ later) q e =
     ] refl e
 
 module _ {X : Type 0} (asks : X → List Asked) where
-  pub records_pass : (k : ℕ) (xs : List X) → first_fault asks k xs ≡ None → All (λ (x : X). Passes (asks x)) xs
+  pub records_pass : (k : ℕ) (xs : List X) → first_fault asks k xs ≡ None → AllByRecursion (λ (x : X). Passes (asks x)) xs
   records_pass k [] e = tt
   records_pass k (x ∷ xs) e =
-      elim (first_no (asks x)) as (λ o. (first_no (asks x) ≡ o) → fault_or o k (first_fault asks (k + 1) xs) ≡ None → All (λ (y : X). Passes (asks y)) (x ∷ xs)) [
+      elim (first_no (asks x)) as (λ o. (first_no (asks x) ≡ o) → fault_or o k (first_fault asks (k + 1) xs) ≡ None → AllByRecursion (λ (y : X). Passes (asks y)) (x ∷ xs)) [
         | None ↦ λ is h. (passes (asks x) is, records_pass (k + 1) xs h)
         | Some q ↦ λ is h. absurd (grind arith)
       ] refl e

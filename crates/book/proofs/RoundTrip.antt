@@ -1,6 +1,6 @@
 -- The round trip of whole books, both ways.
 use Rattle.std.proofs.Common.{◌≡◌, ℕ, zero, suc, ◌+◌, ◌*◌, ◌/◌, ◌^◌, ◌<◌, ◌≤◌, Bool, true, false, leb, List, [], ◌∷◌, ◌++◌, map, length, take, drop, Some, None, Ok, Err, Option, Result, sym, refl, ap, ◌∙◌, subst, arith, get_or-drop}
-use Rattle.std.specs.List.{flat_map, AllByRecursion as All}
+use Rattle.std.specs.List.{flat_map, AllByRecursion}
 use Rattle.std.proofs.lemmas.List.{length-drop, take_at}
 use Rattle.std.proofs.lemmas.Bool.{leb-true, eqb-true, le-leb}
 use Rattle.packing.specs.Fields.{six, front, word, bytes}
@@ -22,7 +22,7 @@ use Rattle.book.proofs.Fitting.{entry_small, entry_back, word_back, header_small
 -- ---- what is written reads back
 
 abbrev Fitting : List Entry → Type 0
-Fitting es = All (λ (e : Entry). Passes (fit_questions e)) es
+Fitting es = AllByRecursion (λ (e : Entry). Passes (fit_questions e)) es
 
 pub length_records : (es : List Entry) → length (flat_map entry_bytes es) ≡ 6 * length es
 length_records [] = refl
@@ -138,13 +138,13 @@ module _ (s : List ℕ) (small : Bytes s) where
   pub small_drop : Bytes (drop 6 s)
   small_drop i = rw get_or-drop (small (6 + i))
 
-records_only : (w k : ℕ) (s : List ℕ) → Bytes s → length s ≡ 6 * k → All (λ n. Passes (record_questions w n)) (words s) → flat_map entry_bytes (entries s) ≡ s
+records_only : (w k : ℕ) (s : List ℕ) → Bytes s → length s ≡ 6 * k → AllByRecursion (λ n. Passes (record_questions w n)) (words s) → flat_map entry_bytes (entries s) ≡ s
 records_only w zero [] small len ok = refl
 records_only w zero (a ∷ s) small len ok = absurd (omega arith)
 records_only w (suc k) s small len ok =
     let long : 6 ≤ length s = omega arith in
     let step = words_step s long in
-    let oks : All (λ n. Passes (record_questions w n)) (word s ∷ words (drop 6 s)) = subst (All (λ n. Passes (record_questions w n))) step ok in
+    let oks : AllByRecursion (λ n. Passes (record_questions w n)) (word s ∷ words (drop 6 s)) = subst (AllByRecursion (λ n. Passes (record_questions w n))) step ok in
     let first : entry_bytes (entry_of (word s)) ≡ front s = ap bytes (word_back w (word s) (word_small s small) oks.0) ∙ bytes_front s small in
     let others = records_only w k (drop 6 s) (small_drop s small) (rw length-drop (omega arith)) oks.1 in
     ap (λ l. flat_map entry_bytes (map entry_of l)) step ∙ (λ i. first i ++ others i) ∙ front_drop s long

@@ -1,6 +1,6 @@
 -- What a fault says, and the round trip, in the words of the book.
 use Rattle.std.specs.Prelude.{◌≡◌, ℕ, ◌+◌, ◌<◌, true, false, ◌⊎◌, List, ◌∷◌, ◌++◌, length, take, drop, None, Ok, slice_index}
-use Rattle.std.specs.List.{AllByRecursion as All}
+use Rattle.std.specs.List.{AllByRecursion}
 use Rattle.packing.specs.Fields.{word}
 use Rattle.book.specs.declared.values.Header.{Header}
 use Rattle.book.specs.declared.values.Entry.{Entry}
@@ -13,7 +13,7 @@ use Rattle.book.specs.Writing.{encode, write_fault}
 
 -- every question is answered yes
 abbrev pub Passes : List Asked → Type 0
-Passes asked = All (λ (a : Asked). a.1 ≡ true) asked
+Passes asked = AllByRecursion (λ (a : Asked). a.1 ≡ true) asked
 
 -- the question q is answered no, and every earlier one yes
 pub record Fails (asked : List Asked) (q : Question) : Type 0 where
@@ -29,7 +29,7 @@ pub record RecordFails {X : Type 0} (asks : X → List Asked) (k : ℕ) (xs : Li
   pub later : List X
   pub order : xs ≡ earlier ++ (here ∷ later)
   pub number : f.«record» ≡ length earlier + k
-  pub passed : All (λ (x : X). Passes (asks x)) earlier
+  pub passed : AllByRecursion (λ (x : X). Passes (asks x)) earlier
   pub fails : Fails (asks here) f.question
 
 -- the book of these bytes has this fault: the header fails, or it passes and a record is the first to fail
@@ -40,7 +40,7 @@ Faulty s f =
 
 -- the book of these bytes passes every question
 abbrev pub Faultless : List ℕ → Type 0
-Faultless s = Passes (header_questions s) × All (λ n. Passes (record_questions (way (word s)) n)) (words (drop 6 s))
+Faultless s = Passes (header_questions s) × AllByRecursion (λ n. Passes (record_questions (way (word s)) n)) (words (drop 6 s))
 
 -- bytes
 abbrev pub Bytes : List ℕ → Type 0

@@ -1,6 +1,6 @@
 -- From what one call does to what all calls have done.
 use Rattle.std.proofs.Common.{◌≡◌, ℕ, suc, ◌+◌, ◌-◌, ◌≤◌, cond, ltb, List, [], ◌++◌, length, sum_by, sym, ap, ◌∙◌, subst, arith}
-use Rattle.std.specs.List.{AllByRecursion as All}
+use Rattle.std.specs.List.{AllByRecursion}
 use Rattle.std.proofs.lemmas.List.{flat_map_more}
 use Rattle.std.proofs.lemmas.List.Sums.{sum_by-append, sum_by_push}
 use Rattle.std.proofs.ByRecursion.{All-append, All-push, All-weaker}
@@ -34,7 +34,7 @@ pub record Stepped (w : Way) (s : Session) (e : Event) (t : Session) : Type 0 wh
   pub lasts : t.period ≡ s.period
   pub like : Like s.orders t.orders
   pub asked : Asked t.orders e
-  pub kept : All (Kept t.orders) e.lines
+  pub kept : AllByRecursion (Kept t.orders) e.lines
   pub accounts : Accounted s.period s.accounts e.lines t.accounts
   pub even : sum_by (λ (a : Account). a.pays) s.accounts ≡ sum_by (λ (a : Account). a.gets) s.accounts →
       sum_by (λ (a : Account). a.pays) t.accounts ≡ sum_by (λ (a : Account). a.gets) t.accounts
@@ -107,7 +107,7 @@ module _ (w : Way) (laws : Laws w) (period : ℕ) (h : History) (c : Call) (r : 
         holds = record {
           award = All-push (Awarded w) h.events e o.award d.award;
           asked = All-push (Asked ps) h.events e (All-weaker (Asked os) (Asked ps) (asked_like os ps d.like) h.events o.asked) d.asked;
-          limits = subst (All (Kept ps)) (sym lines_more)
+          limits = subst (AllByRecursion (Kept ps)) (sym lines_more)
               (All-append (Kept ps) (all_lines h) e.lines (All-weaker (Kept os) (Kept ps) (λ l. kept_like os ps l d.like) (all_lines h) o.limits) d.kept);
           pays = λ m. omega (arith, accounted.pays m, o.pays m, sum_more (pays_of period m));
           gets = λ m. omega (arith, accounted.gets m, o.gets m, sum_more (gets_of period m));

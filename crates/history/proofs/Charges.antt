@@ -1,6 +1,6 @@
 -- What lines do to the accounts.
 use Rattle.std.proofs.Common.{◌≡◌, ℕ, ◌+◌, ◌<◌, ◌≤◌, cond, eqb, List, [], ◌∷◌, length, fold, sum_by, sym, refl, ap, ◌∙◌, inl, inr, arith}
-use Rattle.std.specs.List.{AllByRecursion as All}
+use Rattle.std.specs.List.{AllByRecursion}
 use Rattle.std.proofs.lemmas.List.{get_or-set_same, get_or-set_other, length-set}
 use Rattle.std.proofs.lemmas.List.Sums.{sum_by-cons, sum_by-set}
 use Rattle.std.proofs.lemmas.Bool.{cases_eq, cond-true, cond-false, eq-eqb, ne_eqb}
@@ -35,7 +35,7 @@ module _ (period : ℕ) (figure : Account → ℕ) (part : Line → ℕ) (adds :
         )
       ]
 
-  charges_at : (acs : List Account) (ls : List Line) → length acs ≡ member_places → All (λ (l : Line). l.member ≤ last_member) ls → (m : ℕ) →
+  charges_at : (acs : List Account) (ls : List Line) → length acs ≡ member_places → AllByRecursion (λ (l : Line). l.member ≤ last_member) ls → (m : ℕ) →
       figure (account (fold (charge period) acs ls) m) ≡ figure (account acs m) + sum_by (λ (l : Line). cond (eqb l.member m) (part l) 0) ls
   charges_at acs [] e h m = omega arith
   charges_at acs (l ∷ ls) e h m = omega (
@@ -45,7 +45,7 @@ module _ (period : ℕ) (figure : Account → ℕ) (part : Line → ℕ) (adds :
     sum_by-cons (λ (l : Line). cond (eqb l.member m) (part l) 0) l ls,
   )
 
-  charges_sum : (acs : List Account) (ls : List Line) → length acs ≡ member_places → All (λ (l : Line). l.member ≤ last_member) ls →
+  charges_sum : (acs : List Account) (ls : List Line) → length acs ≡ member_places → AllByRecursion (λ (l : Line). l.member ≤ last_member) ls →
       sum_by figure (fold (charge period) acs ls) ≡ sum_by figure acs + sum_by part ls
   charges_sum acs [] e h = omega arith
   charges_sum acs (l ∷ ls) e h = omega (
@@ -60,7 +60,7 @@ charges_long : (period : ℕ) (acs : List Account) (ls : List Line) → length (
 charges_long period acs [] = refl
 charges_long period acs (l ∷ ls) = charges_long period (charge period acs l) ls ∙ charge_long period acs l
 
-module _ (period : ℕ) (acs : List Account) (ls : List Line) (long : length acs ≡ member_places) (members : All (λ (l : Line). l.member ≤ last_member) ls) where
+module _ (period : ℕ) (acs : List Account) (ls : List Line) (long : length acs ≡ member_places) (members : AllByRecursion (λ (l : Line). l.member ≤ last_member) ls) where
   -- every account grows by the ranked lines of its member
   pub charges_accounted : Accounted period acs (ranked ls) (fold (charge period) acs ls)
   charges_accounted = record {

@@ -1,6 +1,6 @@
 -- Lines that fit their orders, one after the other, and what they do to the orders.
 use Rattle.std.proofs.Common.{◌≡◌, ℕ, suc, ◌+◌, ◌≤◌, List, [], ◌∷◌, length, fold, refl, ◌∙◌, arith}
-use Rattle.std.specs.List.{AllByRecursion as All}
+use Rattle.std.specs.List.{AllByRecursion}
 use Rattle.std.proofs.ByRecursion.{All-weaker}
 use Rattle.std.proofs.lemmas.List.Sums.{sum_by-cons}
 use Rattle.orders.specs.declared.order.Event.TheVariants.{Fill}
@@ -34,8 +34,8 @@ pub record Settles (os : List Order) (ls : List Line) (ps : List Order) : Type 0
   pub like : Like os ps
   pub taken : Taken os ls ps
   pub placed : (k : ℕ) → (at ps k).placed ≡ (at os k).placed
-  pub kept : All (Kept os) ls
-  pub members : All (λ (l : Line). l.member ≤ last_member) ls
+  pub kept : AllByRecursion (Kept os) ls
+  pub members : AllByRecursion (λ (l : Line). l.member ≤ last_member) ls
 
 pub settles : (os : List Order) (ls : List Line) → Good os → Fits os ls → Settles os ls (fold fill os ls)
 settles os [] g f = record {

@@ -1,6 +1,6 @@
 -- What the questions of a call leave: its step.
 use Rattle.std.proofs.Common.{◌≡◌, ℕ, zero, suc, true, false, eqb, leb, List, [], ◌∷◌, length, take, drop, Some, None, Option, sym, refl, ap, ◌∙◌, arith}
-use Rattle.std.specs.List.{AllByRecursion as All}
+use Rattle.std.specs.List.{AllByRecursion}
 use Rattle.std.proofs.lemmas.Bool.{cond_both, cond-true, both_ways, and_parts, leb-true, ltb-true, le-leb}
 use Rattle.ticks.specs.Ticks.{highest_tick}
 use Rattle.orders.specs.declared.order.Ask.{Ask}
@@ -25,12 +25,12 @@ use Rattle.history.proofs.Carries.{Sane, Stepped}
 use Rattle.history.proofs.Calls.{Passed, new_good, place_few, placed_as, refused_steps, withdraw_steps, round_steps, place_steps}
 
 -- where the first no is to none of the first n questions, those are answered yes, and it is to a later one
-passes : (o : Option Refusal) (n : ℕ) (qs : List Asked) → All (λ (a : Asked). o ≡ Some a.0 → ⊥) (take n qs) → first_no qs ≡ o →
-    All (λ (a : Asked). a.1 ≡ true) (take n qs) × (first_no (drop n qs) ≡ o)
+passes : (o : Option Refusal) (n : ℕ) (qs : List Asked) → AllByRecursion (λ (a : Asked). o ≡ Some a.0 → ⊥) (take n qs) → first_no qs ≡ o →
+    AllByRecursion (λ (a : Asked). a.1 ≡ true) (take n qs) × (first_no (drop n qs) ≡ o)
 passes o zero qs other e = (tt, e)
 passes o (suc n) [] other e = (tt, e)
 passes o (suc n) (a ∷ qs) other e =
-    cond_both a.1 (first_no qs) (Some a.0) (λ z. z ≡ o → ((a.1 ≡ true) × All (λ (a : Asked). a.1 ≡ true) (take n qs)) × (first_no (drop n qs) ≡ o))
+    cond_both a.1 (first_no qs) (Some a.0) (λ z. z ≡ o → ((a.1 ≡ true) × AllByRecursion (λ (a : Asked). a.1 ≡ true) (take n qs)) × (first_no (drop n qs) ≡ o))
     (λ y e. let later = passes o n qs other.1 e in ((y, later.0), later.1))
     (λ _ e. absurd (other.0 (sym e)))
     e

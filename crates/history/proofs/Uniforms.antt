@@ -1,6 +1,6 @@
 -- The lines of a uniform round: they fit, keep limits at one price, add up, and give each order its award.
 use Rattle.std.proofs.Common.{◌≡◌, ℕ, zero, suc, ◌+◌, ◌-◌, ◌*◌, ◌<◌, ◌≤◌, Bool, true, false, cond, not, eqb, ltb, List, [], ◌∷◌, map, length, get_or, sum_by, filter, sym, refl, ap, ◌∙◌, subst, inl, inr, add-mul, zero-mul, arith}
-use Rattle.std.specs.List.{AllByRecursion as All}
+use Rattle.std.specs.List.{AllByRecursion}
 use Rattle.std.proofs.lemmas.List.{get_or-map, get_or-set_other, length-map, same_lists, get_or_default}
 use Rattle.std.proofs.ByRecursion.{All-get_or, All-from_get_or, all_kept_by}
 use Rattle.std.proofs.lemmas.List.Sums.{sum_by-cons, length-filter, count_by-le-length}
@@ -33,7 +33,7 @@ use Rattle.history.proofs.Fills.{Fit, Fits}
 -- no two lines are of one order
 abbrev Ascending : List Line → Type 0
 Ascending [] = Unit {0}
-Ascending (l ∷ ls) = All (λ (x : Line). l.order < x.order) ls × Ascending ls
+Ascending (l ∷ ls) = AllByRecursion (λ (x : Line). l.order < x.order) ls × Ascending ls
 
 -- a line still fits where another order is filled
 still_fits : (os : List Order) (l x : Line) → Fit os l → l.order < x.order → Fit os x → Fit (fill os l) x
@@ -46,15 +46,15 @@ still_fits os l x f lt g =
       enough = omega (arith, ap standing same, g.enough);
     }
 
-pub fits_ascending : (os : List Order) (ls : List Line) → Ascending ls → All (Fit os) ls → Fits os ls
+pub fits_ascending : (os : List Order) (ls : List Line) → Ascending ls → AllByRecursion (Fit os) ls → Fits os ls
 fits_ascending os [] a f = tt
 fits_ascending os (l ∷ ls) a f = (f.0, fits_ascending (fill os l) ls a.1 (all ls a.0 f.1))
   where
-    all : (xs : List Line) → All (λ (x : Line). l.order < x.order) xs → All (Fit os) xs → All (Fit (fill os l)) xs
+    all : (xs : List Line) → AllByRecursion (λ (x : Line). l.order < x.order) xs → AllByRecursion (Fit os) xs → AllByRecursion (Fit (fill os l)) xs
     all [] a f = tt
     all (x ∷ xs) a g = (still_fits os l x f.0 a.0 g.0, all xs a.1 g.1)
 
-of_none : (n : ℕ) (ls : List Line) → All (λ (l : Line). n < l.order) ls → sum_by (of_order n) ls ≡ 0
+of_none : (n : ℕ) (ls : List Line) → AllByRecursion (λ (l : Line). n < l.order) ls → sum_by (of_order n) ls ≡ 0
 of_none n [] h = refl
 of_none n (l ∷ ls) h = omega (
   arith,
@@ -67,7 +67,7 @@ of_none n (l ∷ ls) h = omega (
 
 abbrev Rising : List Order → Type 0
 Rising [] = Unit {0}
-Rising (o ∷ os) = All (λ (x : Order). o.number < x.number) os × Rising os
+Rising (o ∷ os) = AllByRecursion (λ (x : Order). o.number < x.number) os × Rising os
 
 rising_from : (n : ℕ) (os : List Order) → ((k : ℕ) → k < length os → (at os k).number ≡ n + k + 1) → Rising os
 rising_from n [] h = tt
@@ -88,12 +88,12 @@ rising_kept test (o ∷ os) h =
 module _ (p : ℕ) where
   -- what holds of the line of each order that is given something holds of all lines
   lines_all : (P : Line → Type 0) (os : List Order) (qs : List ℕ) (i : ℕ) →
-      ((k j : ℕ) → k < length os → 0 < get_or qs k 0 → P (line_of (at os k) (get_or qs k 0) p j)) → All P (lines_at p i os qs)
+      ((k j : ℕ) → k < length os → 0 < get_or qs k 0 → P (line_of (at os k) (get_or qs k 0) p j)) → AllByRecursion P (lines_at p i os qs)
   lines_all P [] qs i h = tt
   lines_all P (o ∷ os) [] i h = tt
   lines_all P (o ∷ os) (q ∷ qs) i h =
-      let later : (j : ℕ) → All P (lines_at p j os qs) = λ j. lines_all P os qs j (λ k n l. h (suc k) n (omega arith)) in
-      cond_both (ltb 0 q) (line_of o q p i ∷ lines_at p (suc i) os qs) (lines_at p i os qs) (All P)
+      let later : (j : ℕ) → AllByRecursion P (lines_at p j os qs) = λ j. lines_all P os qs j (λ k n l. h (suc k) n (omega arith)) in
+      cond_both (ltb 0 q) (line_of o q p i ∷ lines_at p (suc i) os qs) (lines_at p i os qs) (AllByRecursion P)
       (λ y. (h 0 i (omega arith) (ltb-true 0 q y), later (suc i)))
       (λ _. later i)
 
@@ -114,7 +114,7 @@ module _ (p : ℕ) where
       (λ _. omega (arith, lines_few os qs (suc i)))
       (λ _. omega (arith, lines_few os qs i))
 
-  above : (o : Order) (os : List Order) (qs : List ℕ) (i : ℕ) → All (λ (x : Order). o.number < x.number) os → All (λ (l : Line). o.number < l.order) (lines_at p i os qs)
+  above : (o : Order) (os : List Order) (qs : List ℕ) (i : ℕ) → AllByRecursion (λ (x : Order). o.number < x.number) os → AllByRecursion (λ (l : Line). o.number < l.order) (lines_at p i os qs)
   above o os qs i h =
       lines_all (λ (l : Line). o.number < l.order) os qs i (λ k _ l _. All-get_or (λ (x : Order). o.number < x.number) os k no_order l h)
 
@@ -203,7 +203,7 @@ module _ (p : ℕ) where
       ∙ elim (buys l.side) as (λ b. cond b 0 (l.quantity * p * r) ≡ cond b 0 l.quantity * p * r) [ true ↦ sym (nothing r) | false ↦ refl ]
 
   -- at one price, the money of a side is its quantity times the price, over the period
-  money_sum : (side : Bool) (r : ℕ) (ls : List Line) → All (λ (l : Line). l.price ≡ p) ls → sum_by (money side r) ls ≡ sum_by (on_side side) ls * p * r
+  money_sum : (side : Bool) (r : ℕ) (ls : List Line) → AllByRecursion (λ (l : Line). l.price ≡ p) ls → sum_by (money side r) ls ≡ sum_by (on_side side) ls * p * r
   money_sum side r [] h = sym (nothing r)
   money_sum side r (l ∷ ls) h =
       sum_by-cons (money side r) l ls
@@ -328,8 +328,8 @@ module _ (price : PriceMeaning) (share : SharingMeaning) (reference : ℕ) (pric
     count_by-le-length (λ (o : Order). is_standing o.life) os,
   )
 
-  pub round_priced : All (λ (l : Line). l.price ≡ P) ls
-  round_priced = subst (All (λ (l : Line). l.price ≡ P)) (sym lines_are) (lines_all P (λ (l : Line). l.price ≡ P) xs qs 0 (λ _ _ _ _. refl))
+  pub round_priced : AllByRecursion (λ (l : Line). l.price ≡ P) ls
+  round_priced = subst (AllByRecursion (λ (l : Line). l.price ≡ P)) (sym lines_are) (lines_all P (λ (l : Line). l.price ≡ P) xs qs 0 (λ _ _ _ _. refl))
 
   pub round_sums : (side : Bool) → sum_by (on_side side) ls ≡ uniform_volume os
   round_sums side = ap (sum_by (on_side side)) lines_are ∙ lines_on P side xs qs 0 long_qs ∙ round_award.clears side

@@ -1,6 +1,6 @@
 -- What a round owes its members, in words of the orders that stand, the lines and the accounts.
 use Rattle.std.specs.Prelude.{◌≡◌, ℕ, suc, ◌+◌, ◌<◌, ◌≤◌, Bool, true, false, cond, List, [], ◌∷◌, map, length, sum_by, ◌==◌}
-use Rattle.std.specs.List.{AllByRecursion as All}
+use Rattle.std.specs.List.{AllByRecursion}
 use Rattle.curves.specs.Orders.{keeps}
 use Rattle.curves.specs.Allotments.{Best}
 use Rattle.ranking.specs.Orders.{OrderRank}
@@ -66,7 +66,7 @@ Taken os ls ps = (k : ℕ) → standing (at ps k) + sum_by (of_order (suc k)) ls
 -- what every round owes: each line keeps its order's limit, each side's lines add up to the volume that is answered, buyers
 -- pay what sellers get, and accounts and orders move by the lines
 pub record Owed (s : Session) (r : Outcome × Session) : Type 0 where
-  pub kept : All (Kept s.orders) r.1.lines
+  pub kept : AllByRecursion (Kept s.orders) r.1.lines
   pub volume : (side : Bool) → sum_by (on_side side) r.1.lines ≡ r.0.volume
   pub even : sum_by (bill s.period) r.1.lines ≡ sum_by (credit s.period) r.1.lines
   pub accounts : Accounted s.period s.accounts r.1.lines r.1.accounts
@@ -78,7 +78,7 @@ pub record Owed (s : Session) (r : Outcome × Session) : Type 0 where
 -- surplus, and none with equal surplus a greater volume
 pub record FairUniform (s : Session) (r : Outcome × Session) : Type 0 where
   pub owed : Owed s r
-  pub price : All (λ (l : Line). l.price ≡ r.0.price) r.1.lines
+  pub price : AllByRecursion (λ (l : Line). l.price ≡ r.0.price) r.1.lines
   pub best : Best (standing_bids s.orders) (award_of (standing_of s.orders) r.1.lines)
 
 -- ---- a paired round

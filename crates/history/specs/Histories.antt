@@ -1,6 +1,6 @@
 -- Histories of calls, and what holds after each.
 use Rattle.std.specs.Prelude.{◌≡◌, ℕ, suc, ◌+◌, ◌-◌, ◌≤◌, Bool, false, cond, ◌⊎◌, List, [], ◌∷◌, ◌++◌, length, fold, sum_by, count_by, ◌==◌, nat_lt}
-use Rattle.std.specs.List.{flat_map, AllByRecursion as All}
+use Rattle.std.specs.List.{flat_map, AllByRecursion}
 use Rattle.curves.specs.Allotments.{Best}
 use Rattle.orders.specs.declared.order.Ask.{Ask}
 use Rattle.orders.specs.declared.order.Kind.{Kind}
@@ -193,10 +193,10 @@ Apart (Continuous rules) os = Uncrossed os
 pub record Holds (w : Way) (period : ℕ) (h : History) : Type 0 where
   -- awards: each uniform round's is an allotment of the orders that stood, with none of greater surplus, nor of equal surplus
   -- and greater volume
-  pub award : All (Awarded w) h.events
+  pub award : AllByRecursion (Awarded w) h.events
   -- limits: every line is of its order, which is as its place asked, and keeps its limit
-  pub asked : All (Asked h.session.orders) h.events
-  pub limits : All (Kept h.session.orders) (all_lines h)
+  pub asked : AllByRecursion (Asked h.session.orders) h.events
+  pub limits : AllByRecursion (Kept h.session.orders) (all_lines h)
   -- accounts: a member pays the sum of quantity times price times period over its buy lines, and gets it over its sell lines
   pub pays : (m : ℕ) → (account h.session.accounts m).pays ≡ sum_by (pays_of period m) (all_lines h)
   pub gets : (m : ℕ) → (account h.session.accounts m).gets ≡ sum_by (gets_of period m) (all_lines h)
@@ -212,9 +212,9 @@ pub record Holds (w : Way) (period : ℕ) (h : History) : Type 0 where
   -- in a continuous session no two orders that stand could trade
   pub uncrossed : Apart w h.session.orders
   -- fill-or-kill orders traded whole or not at all
-  pub whole : All Whole h.events
+  pub whole : AllByRecursion Whole h.events
   -- the lines of each call found room
-  pub room : All Roomy h.events
+  pub room : AllByRecursion Roomy h.events
   -- and a round that comes next is fair
   pub fair : Fair w h.session (round w h.session)
 

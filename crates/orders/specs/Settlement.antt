@@ -1,6 +1,6 @@
 -- The abstract session, and the one way that quantity and money move in it: by lines.
 use Rattle.std.specs.Prelude.{◌≡◌, ℕ, ◌+◌, ◌-◌, ◌*◌, false, cond, List, [], ◌∷◌, ◌++◌, replicate, fold, slice_index_or, slice_set}
-use Rattle.std.specs.List.{AllByRecursion as All}
+use Rattle.std.specs.List.{AllByRecursion}
 use Rattle.ranking.specs.declared.lines.LineKey.{LineKey}
 use Rattle.ranking.specs.Lines.{line_ahead}
 use Rattle.orders.specs.declared.order.Event.{Event}
@@ -119,7 +119,7 @@ with_ranked_lines s = record { orders = s.orders; accounts = s.accounts; lines =
 -- no line is ahead of one that stands before it
 abbrev pub InRank : List Line → Type 0
 InRank [] = Unit {0}
-InRank (l ∷ ls) = All (λ x. line_ahead (key_of x) (key_of l) ≡ false) ls × InRank ls
+InRank (l ∷ ls) = AllByRecursion (λ x. line_ahead (key_of x) (key_of l) ≡ false) ls × InRank ls
 
 -- ---- theorem
 

@@ -1,6 +1,6 @@
 -- The way of a book, by the numbers of its header.
 use Rattle.std.proofs.Common.{◌≡◌, ℕ, ◌<◌, ◌≤◌, Bool, true, false, cond, ◌&&◌, ◌||◌, eqb, ltb, List, [], ◌∷◌, map, drop, Some, None, Ok, Err, Option, Result, sym, ap, ◌∙◌, subst, inl, inr, arith}
-use Rattle.std.specs.List.{AllByRecursion as All}
+use Rattle.std.specs.List.{AllByRecursion}
 use Rattle.std.proofs.lemmas.Bool.{ne_eqb, eq-eqb, ltb-true, le-ltb, or_cases, and_parts, cases_eq}
 use Rattle.curves.specs.Sharing.{SharingMeaning}
 use Rattle.curves.specs.Pricing.{PriceMeaning}
@@ -75,7 +75,7 @@ kinds n w h e =
           rw (ne_eqb (kind n) 0 d, eq-eqb (kind n) 1 one)
     ]
 
-no_round_words : (w : ℕ) → 5 ≤ w → (ns : List ℕ) → All (λ n. Passes (record_questions w n)) ns → NoRounds (map entry_of ns)
+no_round_words : (w : ℕ) → 5 ≤ w → (ns : List ℕ) → AllByRecursion (λ n. Passes (record_questions w n)) ns → NoRounds (map entry_of ns)
 no_round_words w h [] p = tt
 no_round_words w h (n ∷ ns) p = (kinds n w h p.0.0, no_round_words w h ns p.1)
 

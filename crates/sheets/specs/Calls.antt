@@ -1,6 +1,6 @@
 -- The way that a book's header names, and the calls of its records.
 use Rattle.std.specs.Prelude.{◌≡◌, ℕ, Bool, true, false, cond, List, map, ◌==◌}
-use Rattle.std.specs.List.{AllByRecursion as All}
+use Rattle.std.specs.List.{AllByRecursion}
 use Rattle.curves.specs.Sharing.{SharingMeaning}
 use Rattle.rules.specs.Prices.{crossing, principles}
 use Rattle.rules.specs.Sharing.{earliest_first, largest_first, pro_rata}
@@ -71,7 +71,7 @@ is_round RoundEntry = true
 
 -- none of the records is a round
 abbrev pub NoRounds : List Entry → Type 0
-NoRounds es = All (λ (e : Entry). is_round e ≡ false) es
+NoRounds es = AllByRecursion (λ (e : Entry). is_round e ≡ false) es
 
 -- the calls of records
 abbrev pub calls_of : List Entry → List Call

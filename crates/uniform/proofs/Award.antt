@@ -1,6 +1,6 @@
 -- What all orders get by the margins of V is the award of the sharing rule.
 use Rattle.std.proofs.Common.{◌≡◌, ℕ, ◌+◌, ◌-◌, ◌<◌, ◌≤◌, Bool, true, cond, eqb, List, [], length, get_or, take, count_by, filter, sym, refl, ap, ◌∙◌, subst, inl, inr, arith}
-use Rattle.std.specs.List.{AllByRecursion as All}
+use Rattle.std.specs.List.{AllByRecursion}
 use Rattle.std.proofs.lemmas.List.{get_or-take, length-map, take-map}
 use Rattle.std.proofs.ByRecursion.{All-from_get_or, all_kept_by, All-map, All-get_or}
 use Rattle.std.proofs.lemmas.List.FromFn.{length-map-range_with_len, get_or-map-range_with_len, fill_by_all}
@@ -49,7 +49,7 @@ module _ (share : SharingMeaning) (law : SharingLaw share) (os : List Order) (so
 
   bids_on_ticks : OnTicks highest_tick bs
   bids_on_ticks k h =
-      let each : All (λ (o : Order). o.limit ≤ highest_tick) os =
+      let each : AllByRecursion (λ (o : Order). o.limit ≤ highest_tick) os =
       All-from_get_or (λ (o : Order). o.limit ≤ highest_tick) os no_order (λ i l. (sound_parts i (at os i) (sound i l)).limit) in
       All-get_or (λ (b : Bid). b.limit ≤ highest_tick) bs k no_bid h
       (All-map (λ (b : Bid). b.limit ≤ highest_tick) bid_of (standing_of os)

@@ -1,6 +1,6 @@
 -- The orders of a round trade in turn: one order more.
 use Rattle.std.proofs.Common.{◌≡◌, ℕ, zero, suc, ◌+◌, ◌<◌, ◌≤◌, Bool, true, false, cond, ◌&&◌, ltb, leb, List, [], ◌∷◌, ◌++◌, length, get_or, take, fold, sym, refl, ap, ◌∙◌, add-zero, add-one, arith}
-use Rattle.std.specs.List.{AllByRecursion as All}
+use Rattle.std.specs.List.{AllByRecursion}
 use Rattle.std.proofs.lemmas.List.{get_or-set_other, get_or-take, length-take-le, length-set}
 use Rattle.std.proofs.lemmas.List.Sums.{fold_push}
 use Rattle.std.proofs.lemmas.Bool.{cond_both, lt-ltb, le-leb}
@@ -61,17 +61,17 @@ module _ (p : ℕ) where
       (λ _. omega (arith, lines_most (suc j) os qs)) (λ _. omega (arith, lines_most j os qs))
 
   -- each line is of an order among those gone through
-  lines_below : (base n j : ℕ) (os : List Order) (qs : List ℕ) → ((k : ℕ) → k < length os → (at os k).number ≡ suc (base + k)) → base + length os ≤ n → All (λ (l : Line). l.order ≤ n) (lines_at p j os qs)
+  lines_below : (base n j : ℕ) (os : List Order) (qs : List ℕ) → ((k : ℕ) → k < length os → (at os k).number ≡ suc (base + k)) → base + length os ≤ n → AllByRecursion (λ (l : Line). l.order ≤ n) (lines_at p j os qs)
   lines_below base n j [] qs g h = tt
   lines_below base n j (o ∷ os) [] g h = tt
   lines_below base n j (o ∷ os) (q ∷ qs) g h =
       let x : o.number ≡ suc (base + 0) = g 0 (omega arith) in
       let next : (k : ℕ) → k < length os → (at os k).number ≡ suc (suc base + k) = λ k l. let y = g (suc k) (omega arith) in omega arith in
-      cond_both (ltb 0 q) (line_of o q p j ∷ lines_at p (suc j) os qs) (lines_at p j os qs) (All (λ (l : Line). l.order ≤ n))
+      cond_both (ltb 0 q) (line_of o q p j ∷ lines_at p (suc j) os qs) (lines_at p j os qs) (AllByRecursion (λ (l : Line). l.order ≤ n))
       (λ _. (omega arith, lines_below (suc base) n (suc j) os qs next (omega arith)))
       (λ _. lines_below (suc base) n j os qs next (omega arith))
 
-  untouched_by : (os : List Order) (ls : List Line) (k : ℕ) → All (λ (l : Line). l.order ≤ k) ls → 0 < k → at (fold fill os ls) k ≡ at os k
+  untouched_by : (os : List Order) (ls : List Line) (k : ℕ) → AllByRecursion (λ (l : Line). l.order ≤ k) ls → 0 < k → at (fold fill os ls) k ≡ at os k
   untouched_by os [] k a h = refl
   untouched_by os (l ∷ ls) k a h =
       let b = a.0 in
