@@ -1,7 +1,7 @@
 #!/usr/bin/env python3
-"""Measures `sheet` against the plain Rust program on the same large books.
+"""Measures `whole_sheet` against the plain Rust program on the same large books.
 
-    rt check sheet && bench/ratio.py [RUNS]
+    (cd crates/whole_sheet && rt run < stdin) && bench/ratio.py [RUNS]
 
 It builds bench/plain.rs, makes the books (the same ones each time), feeds each to both programs by turns, checks that
 their texts agree, and prints the least processor time of each and the ratio. The time of an empty book, which is that
@@ -15,7 +15,7 @@ import sys
 import tempfile
 
 TOP = pathlib.Path(__file__).resolve().parent.parent
-SHEET = TOP / "target/bin/sheet"
+SHEET = TOP / "crates/whole_sheet/out/whole_sheet"
 WAYS = ["crossing", "principles", "buyer's", "seller's", "half the sum", "continuous"]
 SHARINGS = ["earliest", "largest", "pro rata"]
 PLACE, WITHDRAW, ROUND = 0, 1, 2
