@@ -6,29 +6,29 @@ ghost use Rattle.book.specs.Numbers.{number_of};
 #[derive(Clone, Copy, PartialEq, Eq, Debug)]
 pub enum Question {
     /// Has the book six bytes or more?
-    SixBytes,
+    SixBytes = 14,
     /// Is the form 1?
-    Form,
+    Form = 15,
     /// Is the way 0 to 5?
-    Way,
+    Way = 16,
     /// Is the sharing 0 to 2, and 0 for the ways 2 to 5?
-    Sharing,
+    Sharing = 17,
     /// Is the reference price 0, unless the way is 1?
-    Reference,
+    Reference = 18,
     /// Are the header's spare bits 0?
-    HeaderSpare,
+    HeaderSpare = 19,
     /// Is the length six bytes and six for each record?
-    Length,
+    Length = 20,
     /// Is the record's kind 0 to 2, and 2 only for ways below 5?
-    Kind,
+    Kind = 21,
     /// Is the order's kind 0 to 2?
-    OrderKind,
+    OrderKind = 22,
     /// Are the record's spare bits 0?
-    RecordSpare,
+    RecordSpare = 23,
     /// Do the values, and the record count, fit their fields?
-    Fit,
+    Fit = 24,
     /// Is the buffer long enough?
-    Room,
+    Room = 25,
 }
 
 impl Question {
@@ -36,20 +36,7 @@ impl Question {
     pub fn number(self) -> u8
         ensures { result ≡ number_of self }
     {
-        match self {
-            Question::SixBytes => 14,
-            Question::Form => 15,
-            Question::Way => 16,
-            Question::Sharing => 17,
-            Question::Reference => 18,
-            Question::HeaderSpare => 19,
-            Question::Length => 20,
-            Question::Kind => 21,
-            Question::OrderKind => 22,
-            Question::RecordSpare => 23,
-            Question::Fit => 24,
-            Question::Room => 25,
-        }
+        self as u8
     }
 }
 

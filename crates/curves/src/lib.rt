@@ -10,70 +10,52 @@ ghost use Rattle.curves.specs.Filling.{AwardOfSharing};
 ghost use Rattle.curves.specs.Pricing.{PriceOfRule};
 
 /// The demand of any list of orders falls from tick to tick, its supply rises, and past the highest tick both are 0.
-pub fn orders_make_curves() -> u8
+pub fn orders_make_curves()
     ensures { OrdersMakeCurves }
-{
-    0
-}
+{}
 
 /// V is reached at a tick, and no tick has a greater executable volume.
-pub fn volume_is_greatest() -> u8
+pub fn volume_is_greatest()
     ensures { VolumeIsGreatest }
-{
-    0
-}
+{}
 
 /// The crossing range is not empty, is an interval, and every tick in it has executable volume V.
-pub fn crossing_range() -> u8
+pub fn crossing_range()
     ensures exists { CrossingExists }
     ensures interval { CrossingIsInterval }
     ensures clears { CrossingClears }
-{
-    0
-}
+{}
 
 /// The crossing range lies between its ends, and half their sum, a half rounded up, is in it.
-pub fn crossing_ends() -> u8
+pub fn crossing_ends()
     ensures ends { CrossingEnds }
     ensures middle { CrossingMiddle }
     ensures half { HalfRoundsUp }
-{
-    0
-}
+{}
 
 /// Whatever lawful rule gives the price of orders whose V is above 0, it is a tick with executable volume V.
-pub fn price_of_rule() -> u8
+pub fn price_of_rule()
     ensures { PriceOfRule }
-{
-    0
-}
+{}
 
 /// Where all limits are ticks, every award (V to each side, best limits first) is an allotment; no allotment has a greater
 /// surplus, and none with equal surplus a greater volume.
-pub fn award_is_best() -> u8
+pub fn award_is_best()
     ensures { AwardIsBest }
-{
-    0
-}
+{}
 
 /// Where all limits are ticks, two awards of the same orders agree in volume and surplus, however they share among equals.
-pub fn awards_agree() -> u8
+pub fn awards_agree()
     ensures { AwardsAgree }
-{
-    0
-}
+{}
 
 /// At every tick whose executable volume is V, each order that an award gives anything keeps its limit.
-pub fn award_keeps_limits() -> u8
+pub fn award_keeps_limits()
     ensures { AwardKeepsLimits }
-{
-    0
-}
+{}
 
 /// Where all limits are ticks, groups of equal limits that are filled from the best on, with any lawful sharing rule, are an
 /// award.
-pub fn award_of_sharing() -> u8
+pub fn award_of_sharing()
     ensures { AwardOfSharing }
-{
-    0
-}
+{}

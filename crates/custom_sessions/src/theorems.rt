@@ -8,22 +8,22 @@ use crate::own::{LargerLeft, LowestClearing, SmallestFirst, ThirdOfTheWay};
 use history::{continuous_sessions_hold, paired_sessions_hold, uniform_sessions_hold};
 
 /// Uniform sessions, at the lowest tick that clears, the smallest order first, whatever the reference price.
-pub fn uniform_histories_hold() -> u8
+pub fn uniform_histories_hold()
     ensures { (reference : ℕ) → HistoriesHold (Uniform lowest_clearing smallest_first reference) }
 {
-    uniform_sessions_hold::<LowestClearing, SmallestFirst>()
+    uniform_sessions_hold::<LowestClearing, SmallestFirst>();
 }
 
 /// Paired sessions, by what is left, at a third of the way.
-pub fn paired_histories_hold() -> u8
+pub fn paired_histories_hold()
     ensures { HistoriesHold (Paired thirds) }
 {
-    paired_sessions_hold::<LargerLeft, ThirdOfTheWay>()
+    paired_sessions_hold::<LargerLeft, ThirdOfTheWay>();
 }
 
 /// Continuous sessions, by the same.
-pub fn continuous_histories_hold() -> u8
+pub fn continuous_histories_hold()
     ensures { HistoriesHold (Continuous thirds) }
 {
-    continuous_sessions_hold::<LargerLeft, ThirdOfTheWay>()
+    continuous_sessions_hold::<LargerLeft, ThirdOfTheWay>();
 }

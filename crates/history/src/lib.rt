@@ -19,24 +19,20 @@ use rules::sharing::SharingRule;
 /// a uniform round all lines have the price that is answered, and what they give to the orders that stood is an allotment:
 /// none has a greater surplus, nor with equal surplus a greater volume. The lines of a paired round are two for each trade, of
 /// one quantity at one price, and it leaves no two orders that could trade.
-pub fn rounds_are_fair() -> u8
+pub fn rounds_are_fair()
     ensures { RoundsAreFair }
-{
-    0
-}
+{}
 
 /// Whatever rules price and share, uniform rounds are fair.
-pub fn uniform_rounds_are_fair<P: PriceRule, S: SharingRule>() -> u8
+pub fn uniform_rounds_are_fair<P: PriceRule, S: SharingRule>()
     ensures { (reference : ℕ) → FairRounds (Uniform P.PriceRule.meaning S.SharingRule.meaning reference) }
-{
-    0
-}
+{}
 
 /// Whatever rules rank and price pairs, paired rounds are fair.
-pub fn paired_rounds_are_fair<R: Ranking, P: PairPrice>() -> u8
+pub fn paired_rounds_are_fair<R: Ranking, P: PairPrice>()
     ensures { FairRounds (Paired (pairs_of (order_rank R.Buy.Ranked.ahead R.Buy.OrderQuote.made) (order_rank R.Sell.Ranked.ahead R.Sell.OrderQuote.made) P.PairPrice.meaning)) }
 {
-    orders_are_ranked::<R>()
+    orders_are_ranked::<R>();
 }
 
 /// Whatever the rules, if they keep their laws, after every list of calls: the award of each uniform round is best; every line
@@ -44,36 +40,30 @@ pub fn paired_rounds_are_fair<R: Ranking, P: PairPrice>() -> u8
 /// named is what its lines, withdraw and kill took of it and what it has left; in a continuous session no two orders could
 /// trade; a fill-or-kill order traded whole or not at all; the lines of each call found room; and a round that comes next is
 /// fair.
-pub fn every_history_holds() -> u8
+pub fn every_history_holds()
     ensures { EveryHistory }
-{
-    0
-}
+{}
 
 /// So it is of uniform sessions, whatever rules price and share.
-pub fn uniform_sessions_hold<P: PriceRule, S: SharingRule>() -> u8
+pub fn uniform_sessions_hold<P: PriceRule, S: SharingRule>()
     ensures { (reference : ℕ) → HistoriesHold (Uniform P.PriceRule.meaning S.SharingRule.meaning reference) }
-{
-    0
-}
+{}
 
 /// So it is of paired sessions, whatever rules rank and price pairs.
-pub fn paired_sessions_hold<R: Ranking, P: PairPrice>() -> u8
+pub fn paired_sessions_hold<R: Ranking, P: PairPrice>()
     ensures { HistoriesHold (Paired (pairs_of (order_rank R.Buy.Ranked.ahead R.Buy.OrderQuote.made) (order_rank R.Sell.Ranked.ahead R.Sell.OrderQuote.made) P.PairPrice.meaning)) }
 {
-    orders_are_ranked::<R>()
+    orders_are_ranked::<R>();
 }
 
 /// So it is of continuous sessions, whatever rules rank and price pairs.
-pub fn continuous_sessions_hold<R: Ranking, P: PairPrice>() -> u8
+pub fn continuous_sessions_hold<R: Ranking, P: PairPrice>()
     ensures { HistoriesHold (Continuous (pairs_of (order_rank R.Buy.Ranked.ahead R.Buy.OrderQuote.made) (order_rank R.Sell.Ranked.ahead R.Sell.OrderQuote.made) P.PairPrice.meaning)) }
 {
-    orders_are_ranked::<R>()
+    orders_are_ranked::<R>();
 }
 
 /// Worked histories.
-pub fn examples_hold() -> u8
+pub fn examples_hold()
     ensures { Examples }
-{
-    0
-}
+{}

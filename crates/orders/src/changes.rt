@@ -228,8 +228,6 @@ impl Tables {
 }
 
 /// Lines that are posted one by one, and then ranked, are settled.
-pub fn lines_settle_one_by_one() -> u8
+pub fn lines_settle_one_by_one()
     ensures { SettledOneByOne }
-{
-    0
-}
+{}

@@ -22,14 +22,14 @@ pub const LEAST_QUANTITY: u32 = 100;
 pub const MOST_QUANTITY: u32 = 1_000_000;
 
 /// The side of the market that an order is on.
-#[derive(Clone, Copy)]
+#[derive(Clone, Copy, PartialEq, Eq, Debug)]
 pub enum Side {
     Buy,
     Sell,
 }
 
 /// What becomes of the part of an order that does not trade at once.
-#[derive(Clone, Copy)]
+#[derive(Clone, Copy, PartialEq, Eq, Debug)]
 pub enum Kind {
     Normal,
     FillAndKill,
@@ -37,7 +37,7 @@ pub enum Kind {
 }
 
 /// Whether an order stands, and if not, how it ended.
-#[derive(Clone, Copy)]
+#[derive(Clone, Copy, PartialEq, Eq, Debug)]
 pub enum Life {
     Standing,
     Filled,
@@ -46,7 +46,7 @@ pub enum Life {
 }
 
 /// What a member asks to place.
-#[derive(Clone, Copy)]
+#[derive(Clone, Copy, PartialEq, Eq, Debug)]
 pub struct Ask {
     pub member: u8,
     pub side: Side,
@@ -56,7 +56,7 @@ pub struct Ask {
 }
 
 /// What can happen to an order: a fill of a quantity, its withdrawal, its kill.
-#[derive(Clone, Copy)]
+#[derive(Clone, Copy, PartialEq, Eq, Debug)]
 pub enum Event {
     Fill(u32),
     Withdraw,
@@ -64,7 +64,7 @@ pub enum Event {
 }
 
 /// An order: its number in the session, what its member asked for, and what is left of it.
-#[derive(Clone, Copy)]
+#[derive(Clone, Copy, PartialEq, Eq, Debug)]
 pub struct Order {
     pub number: u16,
     pub member: u8,
@@ -77,7 +77,7 @@ pub struct Order {
 }
 
 /// A line: what an order traded at a price, and its place in the making of its call.
-#[derive(Clone, Copy)]
+#[derive(Clone, Copy, PartialEq, Eq, Debug)]
 pub struct Line {
     pub side: Side,
     pub order: u16,
@@ -88,7 +88,7 @@ pub struct Line {
 }
 
 /// What a member pays, and what it gets, in fortieths of a rupee.
-#[derive(Clone, Copy)]
+#[derive(Clone, Copy, PartialEq, Eq, Debug)]
 pub struct Account {
     pub pays: u64,
     pub gets: u64,

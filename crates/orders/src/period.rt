@@ -6,7 +6,7 @@ ghost use Rattle.orders.specs.Kept.{longest_period, lawful_period};
 pub const LONGEST_PERIOD: u16 = 2976;
 
 /// A period of 1 to 2,976 quarter-hours.
-#[derive(Clone, Copy)]
+#[derive(Clone, Copy, PartialEq, Eq, PartialOrd, Ord, Debug)]
 pub struct Period {
     pub quarters: u16,
     ghost some: { 1 ≤ quarters },

@@ -74,18 +74,14 @@ impl Field {
 }
 
 /// The fields of a layout and its word determine each other.
-pub fn layouts_pack() -> u8
+pub fn layouts_pack()
     ensures fields { FieldsGiveTheWord }
     ensures values { ValuesComeBack }
     ensures small { WordsFit }
-{
-    0
-}
+{}
 
 /// Six bytes and their word determine each other.
-pub fn bytes_pack() -> u8
+pub fn bytes_pack()
     ensures bytes { BytesComeBack }
     ensures word { WordComesBack }
-{
-    0
-}
+{}

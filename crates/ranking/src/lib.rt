@@ -51,7 +51,7 @@ pub trait Quote: Ranked {
 }
 
 /// The plain fields of an order that a ranking may read.
-#[derive(Clone, Copy)]
+#[derive(Clone, Copy, PartialEq, Eq, Debug)]
 pub struct OrderFields {
     pub number: u16,
     pub limit: u16,
@@ -87,9 +87,7 @@ pub fn is_order_ahead<Q: OrderQuote + Drop>(order: &OrderFields, other: &OrderFi
 }
 
 /// What every ranking shows of the orders of both sides.
-pub fn orders_are_ranked<R: Ranking>() -> u8
+pub fn orders_are_ranked<R: Ranking>()
     ensures buys { OrderRankLaw true (order_rank R.Buy.Ranked.ahead R.Buy.OrderQuote.made) }
     ensures sells { OrderRankLaw false (order_rank R.Sell.Ranked.ahead R.Sell.OrderQuote.made) }
-{
-    0
-}
+{}

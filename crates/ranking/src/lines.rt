@@ -9,7 +9,7 @@ use crate::Ranked;
 use crate::find::{Places, find_best};
 
 /// What a line of a call is ranked by. Lines of a call differ by their making.
-#[derive(Clone, Copy)]
+#[derive(Clone, Copy, PartialEq, Eq, PartialOrd, Ord, Debug)]
 pub struct LineKey {
     pub member: u8,
     pub order: u16,

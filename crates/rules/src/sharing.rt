@@ -156,10 +156,8 @@ impl SharingRule for ProRata {
 
 /// The turns are kept: where an order gets anything, those before it are filled; where it gets a unit of what pro rata
 /// leaves over, so do those before it.
-pub fn turns_are_kept() -> u8
+pub fn turns_are_kept()
     ensures earliest { FilledFirst (λ q. 0) earliest_first }
     ensures largest { FilledFirst (λ q. q) largest_first }
     ensures units { UnitsFirst }
-{
-    0
-}
+{}

@@ -89,19 +89,19 @@ fn cleared(heap: Global, figures: Opening, book: Book) -> Result<Vec<u8>, AllocE
 }
 
 /// Whatever a book's header says, the theorem over every list of calls holds of its way.
-pub fn every_way_holds() -> u8
+pub fn every_way_holds()
     ensures { (h : Header) → HistoriesHold (way_of h) }
 {
-    let _ = uniform_sessions_hold::<Crossing, EarliestFirst>();
-    let _ = uniform_sessions_hold::<Crossing, LargestFirst>();
-    let _ = uniform_sessions_hold::<Crossing, ProRata>();
-    let _ = uniform_sessions_hold::<Principles, EarliestFirst>();
-    let _ = uniform_sessions_hold::<Principles, LargestFirst>();
-    let _ = uniform_sessions_hold::<Principles, ProRata>();
-    let _ = paired_sessions_hold::<Paired, BuyersPrice>();
-    let _ = paired_sessions_hold::<Paired, SellersPrice>();
-    let _ = paired_sessions_hold::<Paired, HalfTheSum>();
-    continuous_sessions_hold::<Continuous, EarlierOrders>()
+    uniform_sessions_hold::<Crossing, EarliestFirst>();
+    uniform_sessions_hold::<Crossing, LargestFirst>();
+    uniform_sessions_hold::<Crossing, ProRata>();
+    uniform_sessions_hold::<Principles, EarliestFirst>();
+    uniform_sessions_hold::<Principles, LargestFirst>();
+    uniform_sessions_hold::<Principles, ProRata>();
+    paired_sessions_hold::<Paired, BuyersPrice>();
+    paired_sessions_hold::<Paired, SellersPrice>();
+    paired_sessions_hold::<Paired, HalfTheSum>();
+    continuous_sessions_hold::<Continuous, EarlierOrders>();
 }
 
 /// The text of a book that reads: that of its calls, or of its opening where that is refused.
@@ -136,7 +136,7 @@ pub fn sheet(heap: Global, bytes: &[u8]) -> Result<Vec<u8>, AllocError>
     ensures text { (input : List ℕ) → bytes.now ≡ take 24577 input → IfOk result (λ text. text.items ≡ sheet_of input) }
     ensures right { (input : List ℕ) → bytes.now ≡ take 24577 input → Right input }
 {
-    let _ = every_way_holds();
+    every_way_holds();
     match open(bytes) {
         Ok(book) => opened(heap, book),
         Err(fault) => fault_text(heap, fault),

@@ -3,7 +3,7 @@ use crate::refusal::Refusal;
 use orders::order::{Ask, Life};
 
 /// A call that can change a session. A round is shut, award and carry over in a row.
-#[derive(Clone, Copy)]
+#[derive(Clone, Copy, PartialEq, Eq, Debug)]
 pub enum Call {
     Place(Ask),
     Withdraw { member: u8, number: u16 },
@@ -11,14 +11,14 @@ pub enum Call {
 }
 
 /// What a place answers: the order's number, and how much of it was killed.
-#[derive(Clone, Copy)]
+#[derive(Clone, Copy, PartialEq, Eq, Debug)]
 pub struct Acceptance {
     pub number: u16,
     pub killed: u32,
 }
 
 /// What a round answers: its volume, its price (0 where nothing trades, and in a paired round) and how many members have lines.
-#[derive(Clone, Copy)]
+#[derive(Clone, Copy, PartialEq, Eq, Debug)]
 pub struct Outcome {
     pub volume: u64,
     pub price: u16,
@@ -26,14 +26,14 @@ pub struct Outcome {
 }
 
 /// What status answers: whether the order stands, and the quantity that it has left.
-#[derive(Clone, Copy)]
+#[derive(Clone, Copy, PartialEq, Eq, Debug)]
 pub struct Status {
     pub life: Life,
     pub left: u32,
 }
 
 /// The answer to a call: what it was told, or why it was refused.
-#[derive(Clone, Copy)]
+#[derive(Clone, Copy, PartialEq, Eq, Debug)]
 pub enum Answer {
     Accepted(Acceptance),
     Withdrawn(u32),

@@ -6,31 +6,31 @@ ghost use Rattle.steps.specs.Refusals.{number_of};
 #[derive(Clone, Copy, PartialEq, Eq, Debug)]
 pub enum Refusal {
     /// Is the period 1 to 2,976 quarter-hours?
-    Period,
+    Period = 1,
     /// Is the reference price a tick?
-    Reference,
+    Reference = 2,
     /// Is the member 1 to 63?
-    Member,
+    Member = 3,
     /// Is the limit, or the tick that is asked about, at most 2,000?
-    Limit,
+    Limit = 4,
     /// Is the quantity 100 to 1,000,000?
-    Quantity,
+    Quantity = 5,
     /// Is the order normal, or the session continuous?
-    Kind,
+    Kind = 6,
     /// Has the member no standing order on the other side?
-    OtherSide,
+    OtherSide = 7,
     /// Have fewer than 511 numbers been given?
-    Numbers,
+    Numbers = 8,
     /// Do the lines of the call fit 1,022 places?
-    Lines,
+    Lines = 9,
     /// Has the number been given?
-    NotGiven,
+    NotGiven = 10,
     /// Is the order this member's?
-    NotOwned,
+    NotOwned = 11,
     /// Is the order standing?
-    NotStanding,
+    NotStanding = 12,
     /// Is the place below the line count?
-    NoSuchLine,
+    NoSuchLine = 13,
 }
 
 impl Refusal {
@@ -38,20 +38,6 @@ impl Refusal {
     pub fn number(self) -> u8
         ensures { result ≡ number_of self }
     {
-        match self {
-            Refusal::Period => 1,
-            Refusal::Reference => 2,
-            Refusal::Member => 3,
-            Refusal::Limit => 4,
-            Refusal::Quantity => 5,
-            Refusal::Kind => 6,
-            Refusal::OtherSide => 7,
-            Refusal::Numbers => 8,
-            Refusal::Lines => 9,
-            Refusal::NotGiven => 10,
-            Refusal::NotOwned => 11,
-            Refusal::NotStanding => 12,
-            Refusal::NoSuchLine => 13,
-        }
+        self as u8
     }
 }

@@ -50,8 +50,6 @@ pub fn put_row(out: &mut Vec<u8>, word: &[u8], numbers: &[u64]) -> Result<(), Al
 }
 
 /// What is written of a number is a numeral with that value.
-pub fn numbers_read_back() -> u8
+pub fn numbers_read_back()
     ensures { NumbersReadBack }
-{
-    0
-}
+{}

@@ -104,8 +104,6 @@ fn rising(offered: &[u32; TICKS]) -> [u64; TICKS]
 }
 
 /// Figures that are made from what stands at each limit are demand and supply of the orders.
-pub fn figures_of_orders() -> u8
+pub fn figures_of_orders()
     ensures { FiguresOfOrders }
-{
-    0
-}
+{}

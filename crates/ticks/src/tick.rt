@@ -9,7 +9,7 @@ pub const HIGHEST: u16 = 2000;
 pub const TICKS: usize = HIGHEST as usize + 1;
 
 /// A price or a limit.
-#[derive(Clone, Copy)]
+#[derive(Clone, Copy, PartialEq, Eq, PartialOrd, Ord, Debug)]
 pub struct Tick {
     pub value: u16,
     ghost within: { value ≤ highest_tick },
