@@ -2,7 +2,7 @@
 ghost use Rattle.std.specs.Prelude.{◌≡◌};
 ghost use Rattle.orders.specs.declared.order.Kind.TheVariants.{Normal};
 
-use crate::own::{LargerLeft, LowestClearing, SmallestFirst, ThirdOfTheWay};
+use own_rules::{LargerLeft, LowestClearing, SmallestFirst, ThirdOfTheWay};
 use crate::words::{print_account, print_lines, print_placed, print_refusal};
 use orders::order::{Ask, Kind, Side};
 use replay::{make, replay};

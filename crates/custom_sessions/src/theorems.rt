@@ -2,9 +2,10 @@
 ghost use Rattle.std.specs.Prelude.{ℕ};
 ghost use Rattle.steps.specs.Ways.{Uniform, Paired, Continuous};
 ghost use Rattle.history.specs.Histories.{HistoriesHold};
-ghost use Rattle.custom_sessions.specs.Meanings.{lowest_clearing, smallest_first, thirds};
+ghost use Rattle.own_rules.specs.Meanings.{lowest_clearing, smallest_first};
+ghost use Rattle.custom_sessions.specs.Meanings.{thirds};
 
-use crate::own::{LargerLeft, LowestClearing, SmallestFirst, ThirdOfTheWay};
+use own_rules::{LargerLeft, LowestClearing, SmallestFirst, ThirdOfTheWay};
 use history::{continuous_sessions_hold, paired_sessions_hold, uniform_sessions_hold};
 
 /// Uniform sessions, at the lowest tick that clears, the smallest order first, whatever the reference price.

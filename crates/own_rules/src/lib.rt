@@ -1,10 +1,12 @@
-//! The contract's own rules: a price rule, a sharing rule, a pair price and a ranking, each with its law.
+//! The rules of a contract that brings its own: a price rule, a sharing rule, a pair price and a ranking, each with its law.
+#![tactic(auto)]
+
 ghost use Rattle.std.specs.Prelude.{◌≡◌, ◌==◌};
 ghost use Rattle.curves.specs.Curves.{executable, curve};
 ghost use Rattle.ticks.specs.Seen.{demand_of, supply_of};
-ghost use Rattle.custom_sessions.specs.Meanings.{lowest_clearing, smallness, smallest_first, third_of_the_way, larger_left};
+ghost use Rattle.own_rules.specs.Meanings.{lowest_clearing, smallness, smallest_first, third_of_the_way, larger_left};
 ghost use Rattle.ticks.specs.Ticks.{highest_tick};
-ghost use Rattle.custom_sessions.specs.Laws.{clears_within, clears_there};
+ghost use Rattle.own_rules.specs.Laws.{clears_within, clears_there};
 ghost use Rattle.std.proofs.Common.{rules};
 ghost use Rattle.rules.specs.Quotas.{claims_law};
 
@@ -17,6 +19,8 @@ use ticks::figures::Figures;
 use ticks::search::{TickTest, lowest_tick};
 use ticks::tick::Tick;
 use turns::{Turns, share_by_turns};
+
+pub mod show;
 
 /// The lowest tick at which the greatest volume can trade.
 #[derive(Clone, Copy)]

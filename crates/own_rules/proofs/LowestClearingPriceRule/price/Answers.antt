@@ -2,8 +2,8 @@ use Rattle.std.proofs.Common.{◌≡◌, ℕ, suc, eqb, ap, ◌∙◌, arith}
 use Rattle.curves.specs.Sums.{lowest}
 use Rattle.curves.specs.Curves.{executable, curve}
 use Rattle.ticks.specs.Ticks.{highest_tick}
-use Rattle.custom_rules.specs.Laws.{trades, clears_within}
-use Rattle.custom_rules.proofs.LowestClearingPriceRule.price.Goals as goal
+use Rattle.own_rules.specs.Laws.{trades, clears_within}
+use Rattle.own_rules.proofs.LowestClearingPriceRule.price.Goals as goal
 
 pub invariant_of-result : goal.invariant_of-result
 invariant_of-result c =
