@@ -1,8 +1,8 @@
 -- A fault, and the absence of one, in the words of the book.
-use Rattle.std.proofs.Common.{◌≡◌, ℕ, ◌+◌, ◌-◌, ◌<◌, ◌≤◌, true, false, cond, leb, List, [], ◌∷◌, length, get_or, take, drop, Some, None, Ok, Err, Option, sym, refl, ap, ◌∙◌, inl, inr, arith}
-use Rattle.std.proofs.lemmas.List.{at_drop_more, at_drop_all}
+use Rattle.std.proofs.Common.{◌≡◌, ℕ, ◌+◌, ◌-◌, ◌<◌, ◌≤◌, true, false, cond, leb, List, [], ◌∷◌, length, take, drop, Some, None, Ok, Err, Option, Result, MatchResult, sym, refl, ap, subst, ◌∙◌, inl, inr, arith}
 use Rattle.std.proofs.lemmas.Bool.{cond-true, cond-false, le-leb, lt-leb}
 use Rattle.std.specs.List.{AllByRecursion}
+use Rattle.std.specs.Result.{IsErrAnd, result_err}
 use Rattle.packing.specs.Fields.{word}
 use Rattle.book.specs.declared.values.Header.{Header}
 use Rattle.book.specs.declared.values.Entry.{Entry}
@@ -14,6 +14,18 @@ use Rattle.book.specs.Questions.{Asked, header_questions, word_questions, record
 use Rattle.book.specs.Reading.{words, entries, read_book, with_header, with_records}
 use Rattle.book.proofs.Words.{words_step, rest}
 use Rattle.book.specs.Laws.{Passes, Fails, RecordFails, Faulty, Faultless}
+
+-- ---- an error that is passed on
+
+pub err_of : {X E : Type 0} (r : Result X E) (f : E) → IsErrAnd r (λ x. x ≡ f) → result_err r ≡ Some f
+err_of (Ok x) f h = absurd h
+err_of (Err e) f h = ap Some h
+
+pub err_told : {X E : Type 0} (r : Result X E) (f : E) (P : X → Type 0) (Q : E → Type 0) → IsErrAnd r (λ x. x ≡ f) → Q f → MatchResult r P Q
+err_told (Ok x) f P Q h q = absurd h
+err_told (Err e) f P Q h q = subst Q (sym h) q
+
+-- ---- the first no
 
 pub passes : (asked : List Asked) → first_no asked ≡ None → Passes asked
 passes [] e = tt
@@ -74,19 +86,6 @@ module _ {X : Type 0} (asks : X → List Asked) where
               fails = fails (asks x) f.question (is ∙ ap (λ (y : Fault). Some y.question) same);
             }
       ] refl e
-
--- ---- a scan of records by place
-
-module _ {X : Type 0} (asks : X → List Asked) (k : ℕ) (xs : List X) (i : ℕ) where
-  module _ (d : X) (h : i < length xs) where
-    pub scan_here : (q : Question) → Some q ≡ first_no (asks (get_or xs i d)) → Some (fault q k) ≡ first_fault asks k (drop i xs)
-    scan_here q e = sym (at_drop_more (first_fault asks k) xs i d h ∙ rw (← e))
-
-    pub scan_more : None ≡ first_no (asks (get_or xs i d)) → first_fault asks (k + 1) (drop (i + 1) xs) ≡ first_fault asks k (drop i xs)
-    scan_more e = sym (at_drop_more (first_fault asks k) xs i d h ∙ rw (← e))
-
-  pub scan_end : length xs ≤ i → None ≡ first_fault asks k (drop i xs)
-  scan_end h = sym (at_drop_all (first_fault asks k) xs i h)
 
 -- ---- one record more, where the code has its word as n
 

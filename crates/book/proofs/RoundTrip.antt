@@ -1,8 +1,9 @@
 -- The round trip of whole books, both ways.
-use Rattle.std.proofs.Common.{◌≡◌, ℕ, zero, suc, ◌+◌, ◌*◌, ◌/◌, ◌^◌, ◌<◌, ◌≤◌, Bool, true, false, leb, List, [], ◌∷◌, ◌++◌, map, length, take, drop, Some, None, Ok, Err, Option, Result, sym, refl, ap, ◌∙◌, subst, arith, get_or-drop}
+use Rattle.std.proofs.Common.{◌≡◌, ℕ, zero, suc, ◌+◌, ◌*◌, ◌/◌, ◌^◌, ◌<◌, ◌≤◌, Bool, true, false, ◌||◌, leb, eqb, List, [], ◌∷◌, ◌++◌, map, length, take, drop, Some, None, Ok, Err, Option, Result, sym, refl, ap, ◌∙◌, subst, arith, get_or-drop}
 use Rattle.std.specs.List.{flat_map, AllByRecursion}
 use Rattle.std.proofs.lemmas.List.{length-drop, take_at}
-use Rattle.std.proofs.lemmas.Bool.{leb-true, eqb-true, le-leb}
+use Rattle.std.proofs.lemmas.Bool.{leb-true, eqb-true, and_parts}
+use Rattle.std.proofs.lemmas.Bool.Decides.{nat_tests}
 use Rattle.packing.specs.Fields.{six, front, word, bytes}
 use Rattle.packing.proofs.Cuts.{values_come_back, words_fit, word_comes_back}
 use Rattle.book.specs.declared.values.Header.{Header}
@@ -12,7 +13,7 @@ use Rattle.book.specs.declared.fault.Question.TheVariants.{Fit, Room}
 use Rattle.book.specs.declared.fault.Fault.{Fault}
 use Rattle.book.specs.Format.{way, count, header_of, entry_of}
 use Rattle.book.specs.Questions.{header_questions, word_questions, value_questions, record_questions, first_no, fault, fault_or, first_fault}
-use Rattle.book.specs.Reading.{words, entries, with_records, with_header, read_book}
+use Rattle.book.specs.Reading.{words, entries, with_records, with_header, read_book, Lawful, is_round, NoRounds}
 use Rattle.book.specs.Writing.{header_word, entry_word, entry_bytes, encode, book_length, header_fits, fit_questions, read_questions, or_else, fault_of, write_fault}
 use Rattle.book.specs.Laws.{Passes, Bytes, WrittenReadsBack, ReadIsOnlyWriting}
 use Rattle.book.proofs.Words.{words_step, length_entries}
@@ -195,20 +196,54 @@ module _ (s : List ℕ) (h : Header) (es : List Entry) (small : Bytes s) (r : Re
 pub read_is_only_writing : ReadIsOnlyWriting
 read_is_only_writing s h es small e = only s h es small (reads_parts s h es e)
 
+-- ---- what holds of a book that reads
+
 -- a book has fewer records than its count can tell
 pub few : (s : List ℕ) (h : Header) (es : List Entry) → Bytes s → read_book s ≡ Ok (h, es) → length es < 4096
 few s h es small e = let n = count_ok s h es small (reads_parts s h es e) in omega arith
 
+lawful_values : (h : Header) → Passes (value_questions h.way h.sharing h.reference) → Lawful h
+lawful_values h p =
+    let way = p.0 in
+    let sharing = and_parts (leb h.sharing 2) (leb h.way 1 || eqb h.sharing 0) p.1.0 in
+    let reference = p.1.1.0 in
+    record {
+      way = leb-true h.way 5 way;
+      sharing = leb-true h.sharing 2 sharing.0;
+      one_sharing = λ more. let one = sharing.1 in grind (arith, nat_tests);
+      reference = λ other. grind (arith, nat_tests);
+    }
+
+pub lawful : (s : List ℕ) (h : Header) (es : List Entry) → read_book s ≡ Ok (h, es) → Lawful h
+lawful s h es e =
+    let r = reads_parts s h es e in
+    let ok = passes (header_questions s) r.asked in
+    subst Lawful r.header (lawful_values (header_of (word s)) (ok.1.1.0, (ok.1.1.1.0, (ok.1.1.1.1.0, tt))))
+
+-- a record that passes where rounds are asked away is none
+no_round : (w n : ℕ) → 5 ≤ w → Passes (record_questions w n) → is_round (entry_of n) ≡ false
+no_round w n late p = let a = p.0 in grind (arith, nat_tests)
+
+no_round_words : (w : ℕ) → 5 ≤ w → (ns : List ℕ) → AllByRecursion (λ n. Passes (record_questions w n)) ns → NoRounds (map entry_of ns)
+no_round_words w late [] p = tt
+no_round_words w late (n ∷ ns) p = (no_round w n late p.0, no_round_words w late ns p.1)
+
+pub no_rounds : (s : List ℕ) (h : Header) (es : List Entry) → read_book s ≡ Ok (h, es) → 5 ≤ h.way → NoRounds es
+no_rounds s h es e late =
+    let r = reads_parts s h es e in
+    let w : way (word s) ≡ h.way = ap (λ (x : Header). x.way) r.header in
+    subst NoRounds r.all (no_round_words (way (word s)) (omega arith) (words (drop 6 s)) (records_pass (record_questions (way (word s))) 1 (words (drop 6 s)) r.records))
+
 -- ---- the calls of writing
 
-all_passed : (a : Bool) (u : Option Fault) (l : Bool) (o x : Option Fault) → true ≡ a → None ≡ u → l ≡ true → o ≡ x → x ≡ fault_or (first_no ((Fit, a) ∷ [])) 0 (or_else u (fault_or (first_no ((Room, l) ∷ [])) 0 o))
-all_passed a u l o x p q r e = rw (← p, ← q, r) (sym e)
+all_passed : (a : Bool) (u : Option Fault) (l : Bool) (o x : Option Fault) → None ≡ first_no ((Fit, a) ∷ []) → None ≡ u → None ≡ first_no ((Room, l) ∷ []) → o ≡ x → x ≡ fault_or (first_no ((Fit, a) ∷ [])) 0 (or_else u (fault_or (first_no ((Room, l) ∷ [])) 0 o))
+all_passed a u l o x p q r e = rw (← p, ← q, ← r) (sym e)
 
 -- where fit and room are there, the reading questions decide
-pub write_asks : (h : Header) (es : List Entry) (len : ℕ) (q : Option Question) → true ≡ header_fits h (length es) → None ≡ first_fault fit_questions 1 es → book_length es ≤ len → q ≡ first_no (value_questions h.way h.sharing h.reference) → fault_or q 0 (first_fault (read_questions h.way) 1 es) ≡ write_fault h es len
+pub write_asks : (h : Header) (es : List Entry) (len : ℕ) (q : Option Question) → None ≡ first_no ((Fit, header_fits h (length es)) ∷ []) → None ≡ first_fault fit_questions 1 es → None ≡ first_no ((Room, leb (book_length es) len) ∷ []) → q ≡ first_no (value_questions h.way h.sharing h.reference) → fault_or q 0 (first_fault (read_questions h.way) 1 es) ≡ write_fault h es len
 write_asks h es len q t u l is =
-    all_passed (header_fits h (length es)) (first_fault fit_questions 1 es) (leb (book_length es) len) (fault_of (read_book (encode h es))) (fault_or q 0 (first_fault (read_questions h.way) 1 es)) t u (le-leb (book_length es) len l)
-    (fault_written h es (sym t) (records_pass fit_questions 1 es (sym u)) ∙ ap (λ o. fault_or o 0 (first_fault (read_questions h.way) 1 es)) (sym is))
+    all_passed (header_fits h (length es)) (first_fault fit_questions 1 es) (leb (book_length es) len) (fault_of (read_book (encode h es))) (fault_or q 0 (first_fault (read_questions h.way) 1 es)) t u l
+    (fault_written h es (passes ((Fit, header_fits h (length es)) ∷ []) (sym t)).0 (records_pass fit_questions 1 es (sym u)) ∙ ap (λ o. fault_or o 0 (first_fault (read_questions h.way) 1 es)) (sym is))
 
 pub write_room : (h : Header) (es : List Entry) (len : ℕ) → None ≡ write_fault h es len → (length es < 4096) × (book_length es ≤ len)
 write_room h es len none =

@@ -1,10 +1,10 @@
 -- The records of some bytes, one after the other.
-use Rattle.std.proofs.Common.{◌≡◌, ℕ, zero, suc, ◌-◌, ◌/◌, ◌<◌, ◌≤◌, List, [], ◌∷◌, length, take, drop, refl, ap, ◌∙◌, arith}
+use Rattle.std.proofs.Common.{◌≡◌, ℕ, zero, suc, ◌-◌, ◌/◌, ◌<◌, ◌≤◌, List, [], ◌∷◌, length, take, drop, refl, ap, ◌∙◌, subst, arith}
 use Rattle.std.proofs.lemmas.List.{length-drop, length-map, take_rest, get_or-take}
 use Rattle.packing.specs.Fields.{word}
 use Rattle.book.specs.declared.values.Entry.{Entry}
 use Rattle.book.specs.Format.{entry_of}
-use Rattle.book.specs.Reading.{words_of, words, entries}
+use Rattle.book.specs.Reading.{words_of, words, entries, NoRounds}
 
 pub words_step : (s : List ℕ) → 6 ≤ length s → words s ≡ word s ∷ words (drop 6 s)
 words_step s h =
@@ -29,6 +29,16 @@ entries_step s x h e =
     let same = word_take 6 s (omega arith) in
     let part = rest s in
     cc
+
+-- the first record is cut off
+entries_rest : (s : List ℕ) → 6 ≤ length s → entries s ≡ entry_of (word s) ∷ entries (take (length s - 6) (drop 6 s))
+entries_rest s h = let first = words_step s h in let part = rest s in cc
+
+pub fewer : (s : List ℕ) → 6 ≤ length s → length (entries (take (length s - 6) (drop 6 s))) < length (entries s)
+fewer s h = let e = ap length (entries_rest s h) in omega arith
+
+pub no_rounds_rest : (s : List ℕ) → 6 ≤ length s → NoRounds (entries s) → NoRounds (entries (take (length s - 6) (drop 6 s)))
+no_rounds_rest s h none = (subst NoRounds (entries_rest s h) none).1
 
 length_words : (n : ℕ) (s : List ℕ) → length (words_of n s) ≡ n
 length_words zero s = refl

@@ -1,4 +1,7 @@
 pub mod Numbers
+pub mod Codes
+pub mod Names
+pub mod Wording
 pub mod Format
 pub mod Questions
 pub mod Reading

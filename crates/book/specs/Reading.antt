@@ -1,5 +1,6 @@
 -- What reading a book gives.
-use Rattle.std.specs.Prelude.{ℕ, zero, suc, ◌/◌, List, [], ◌∷◌, map, length, drop, Some, None, Ok, Err, Option, Result}
+use Rattle.std.specs.Prelude.{◌≡◌, ◌≢◌, ℕ, zero, suc, ◌/◌, ◌<◌, ◌≤◌, Bool, true, false, List, [], ◌∷◌, map, length, drop, Some, None, Ok, Err, Option, Result}
+use Rattle.std.specs.List.{AllByRecursion}
 use Rattle.packing.specs.Fields.{word}
 use Rattle.book.specs.declared.values.Header.{Header}
 use Rattle.book.specs.declared.values.Entry.{Entry}
@@ -49,3 +50,22 @@ abbrev pub bytes_of : Record → List ℕ
 bytes_of (PlaceAt six) = six.now
 bytes_of (WithdrawAt six) = six.now
 bytes_of (RoundAt six) = six.now
+
+-- ---- what holds of a book that reads
+
+-- the values of its header may stand together
+pub record Lawful (h : Header) : Type 0 where
+  pub way : h.way ≤ 5
+  pub sharing : h.sharing ≤ 2
+  pub one_sharing : 1 < h.way → h.sharing ≡ 0
+  pub reference : h.way ≢ 1 → h.reference ≡ 0
+
+-- is the record a round?
+abbrev pub is_round : Entry → Bool
+is_round (Place p) = false
+is_round (Withdraw w) = false
+is_round Round = true
+
+-- none of the records is a round
+abbrev pub NoRounds : List Entry → Type 0
+NoRounds es = AllByRecursion (λ (e : Entry). is_round e ≡ false) es

@@ -1,33 +1,29 @@
 //! Opens a book and hands out its records.
-ghost use Rattle.std.specs.Prelude.{◌≡◌, ℕ, ◌+◌, ◌-◌, ◌*◌, ◌/◌, ◌^◌, ◌<◌, ◌≤◌, [], ◌∷◌, length, take, IfOk, Ok, Err, MatchOption, MatchResult};
+ghost use Rattle.std.specs.Prelude.{◌≡◌, ℕ, ◌+◌, ◌-◌, ◌*◌, ◌/◌, ◌^◌, ◌<◌, ◌≤◌, [], ◌∷◌, length, take, IfOk, Ok, Err, MatchResult, IfSome};
+ghost use Rattle.std.specs.Result.{result_err};
+ghost use Rattle.std.specs.Iterator.{YieldsFirstBy, at_most};
+ghost use Rattle.std.proofs.Props.{props};
 ghost use Rattle.packing.specs.Fields.{word};
 ghost use Rattle.book.specs.Format.{header_of, placement_of, withdrawal_of, entry_of};
 ghost use Rattle.book.specs.Questions.{value_questions, word_questions, header_questions, record_questions, first_no, first_fault};
-ghost use Rattle.book.specs.Reading.{words, entries, read_book, value_of, bytes_of};
+ghost use Rattle.book.specs.Reading.{words, entries, read_book, value_of, bytes_of, Lawful, NoRounds};
+ghost use Rattle.book.specs.Codes.{way_code, sharing_code};
 ghost use Rattle.book.specs.Laws.{Faulty, Faultless};
 ghost use Rattle.book.specs.Writing.{encode};
 
+use crate::codes::{Sharing, Way};
 use crate::fault::{Fault, Question};
 use crate::layout::*;
 use crate::values::{Entry, Header, Placement, Record, Withdrawal};
 use packing::word_of;
 
-/// Whether the values of a header may stand together.
-pub(crate) fn values_no(way: u8, sharing: u8, reference: u16) -> Option<Question>
-    ensures { result ≡ first_no (value_questions way sharing reference) }
+/// Asks whether the values of a header may stand together.
+pub(crate) fn ask_values(header: Header) -> Result<(), Question>
+    ensures { result_err result ≡ first_no (value_questions header.way header.sharing header.reference) }
 {
-    match way {
-        0..=5 => {}
-        _ => return Some(Question::Way),
-    }
-    match (way, sharing) {
-        (0..=1, 0..=2) | (_, 0) => {}
-        _ => return Some(Question::Sharing),
-    }
-    if way != 1 && reference != 0 {
-        return Some(Question::Reference);
-    }
-    None
+    Question::Way.ask(matches!(header.way, 0..=5))?;
+    Question::Sharing.ask(matches!((header.way, header.sharing), (0..=1, 0..=2) | (_, 0)))?;
+    Question::Reference.ask(header.way == 1 || header.reference == 0)
 }
 
 /// The values in a header's word.
@@ -42,87 +38,76 @@ fn header_of(word: u64) -> Header
     }
 }
 
-/// The first question that a header's word fails, in a book of `len` bytes.
-fn word_no(word: u64, len: usize) -> Option<Question>
-    ensures { result ≡ first_no (word_questions word len) }
+/// Puts the questions to a header's word, in a book of `len` bytes.
+fn ask_header(word: u64, len: usize) -> Result<(), Question>
+    ensures { result_err result ≡ first_no (word_questions word len) }
 {
-    if FORM.cut(word) != FORM_OF_BOOKS {
-        return Some(Question::Form);
-    }
-    let header = header_of(word);
-    let no = values_no(header.way, header.sharing, header.reference);
-    if no.is_some() {
-        return no;
-    }
-    if HEADER_SPARE.cut(word) != 0 {
-        return Some(Question::HeaderSpare);
-    }
-    if len != SIX + SIX * COUNT.cut(word) as usize {
-        return Some(Question::Length);
-    }
-    None
+    Question::Form.ask(FORM.cut(word) == FORM_OF_BOOKS)?;
+    ask_values(header_of(word))?;
+    Question::HeaderSpare.ask(HEADER_SPARE.cut(word) == 0)?;
+    Question::Length.ask(len == SIX + SIX * COUNT.cut(word) as usize)
 }
 
-/// The first question that a record's word fails under the header's way.
-pub(crate) fn record_no(way: u8, word: u64) -> Option<Question>
-    ensures { result ≡ first_no (record_questions way word) }
+/// Puts the questions to a record's word, under the header's way.
+pub(crate) fn ask_record(way: u8, word: u64) -> Result<(), Question>
+    ensures { result_err result ≡ first_no (record_questions way word) }
 {
     let spare = match KIND.cut(word) {
         0 => match ORDER_KIND.cut(word) {
             0..=2 => PLACE_SPARE.cut(word),
-            _ => return Some(Question::OrderKind),
+            _ => return Err(Question::OrderKind),
         },
         1 => WITHDRAW_SPARE.cut(word),
         2 if way < 5 => ROUND_SPARE.cut(word),
-        _ => return Some(Question::Kind),
+        _ => return Err(Question::Kind),
     };
-    if spare == 0 {
-        None
-    } else {
-        Some(Question::RecordSpare)
-    }
+    Question::RecordSpare.ask(spare == 0)
 }
 
-/// The first fault of the records in some bytes.
-fn first_fault(way: u8, s: &[u8]) -> Option<Fault>
-    ensures { result ≡ first_fault (record_questions way) 1 (words s.now) }
+/// Puts the questions to the records in some bytes.
+fn ask_records(way: u8, s: &[u8]) -> Result<(), Fault>
+    ensures { result_err result ≡ first_fault (record_questions way) 1 (words s.now) }
 {
     let mut rest = s;
+    // Counted by hand: the slice pattern itself takes the next six bytes, and leaves no iterator to enumerate.
     let mut record: usize = 1;
     while let [a, b, c, d, e, f, more @ ..] = rest {
-        if let Some(question) = record_no(way, word_of(&[*a, *b, *c, *d, *e, *f])) {
-            return Some(Fault { question, record });
+        if let Err(question) = ask_record(way, word_of(&[*a, *b, *c, *d, *e, *f])) {
+            return Err(Fault { question, record });
         }
         record += 1;
         rest = more;
     }
-    None
+    Ok(())
 }
 
-impl<'a> Record<'a> {
-    /// The record of six bytes, by their kind.
-    pub fn of(six: &'a [u8; 6]) -> Self
-        ensures value { value_of result ≡ entry_of (word six.now) }
-        ensures bytes { bytes_of result ≡ six.now }
-    {
+/// The record of six bytes, by their kind.
+impl<'a> From<&'a [u8; 6]> for Record<'a> {
+    ghost from_gives = { λ six given. (value_of given ≡ entry_of (word six.now)) × (bytes_of given ≡ six.now) };
+
+    fn from(six: &'a [u8; 6]) -> Record<'a> {
         match KIND.cut(word_of(six)) {
             0 => Record::Place(six),
             1 => Record::Withdraw(six),
             _ => Record::Round(six),
         }
     }
+}
 
-    /// Its plain value.
-    pub fn entry(self) -> Entry
-        ensures { result ≡ value_of self.entry }
-    {
-        match self {
+/// The plain value of a record.
+impl<'a> From<Record<'a>> for Entry {
+    ghost from_gives = { λ given entry. entry ≡ value_of given };
+
+    fn from(record: Record<'a>) -> Entry {
+        match record {
             Record::Place(six) => Entry::Place(placement_of(six)),
             Record::Withdraw(six) => Entry::Withdraw(withdrawal_of(six)),
             Record::Round(_) => Entry::Round,
         }
     }
 }
+
+// No `From` for these two: six bytes by themselves do not say whether they place or withdraw, and the names do.
 
 /// The order that the six bytes of a place hold.
 pub fn placement_of(six: &[u8; 6]) -> Placement
@@ -154,6 +139,9 @@ pub fn withdrawal_of(six: &[u8; 6]) -> Withdrawal
 pub struct Book<'a> {
     header: Header,
     rest: &'a [u8],
+    ghost few: { length (entries rest.now) < 4096 },
+    ghost lawful: { Lawful header },
+    ghost continuous: { 5 ≤ header.way → NoRounds (entries rest.now) } by { Prim.hlevel props },
 }
 
 /// Reads a book as far as its first fault.
@@ -164,23 +152,13 @@ pub fn open<'a>(s: &'a [u8]) -> Result<Book<'a>, Fault>
     ensures few { IfOk result (λ b. length (entries b.rest.now) < 4096) }
 {
     let [a, b, c, d, e, f, rest @ ..] = s else {
-        return Err(Fault {
-            question: Question::SixBytes,
-            record: 0,
-        });
+        return Err(Fault::from(Question::SixBytes));
     };
     let word = word_of(&[*a, *b, *c, *d, *e, *f]);
-    if let Some(question) = word_no(word, s.len()) {
-        return Err(Fault {
-            question,
-            record: 0,
-        });
-    }
+    ask_header(word, s.len())?;
     let header = header_of(word);
-    match first_fault(header.way, rest) {
-        Some(fault) => Err(fault),
-        None => Ok(Book { header, rest }),
-    }
+    ask_records(header.way, rest)?;
+    Ok(Book { header, rest })
 }
 
 impl<'a> Book<'a> {
@@ -192,25 +170,44 @@ impl<'a> Book<'a> {
     }
 
     /// How many records are still to be handed out.
+    #[tactic(auto, using(crate::proofs::Words::length_entries))]
     pub fn len(&self) -> usize
         ensures { result ≡ length (entries self.now.rest.now) }
     {
         self.rest.len() / SIX
     }
 
-    /// Hands out the next record.
-    pub fn next(&mut self) -> Option<Record<'a>>
-        ensures same { self.new.header ≡ self.old.header }
-        ensures hands { MatchOption result (entries self.old.rest.now ≡ []) (λ x. (entries self.old.rest.now ≡ value_of x ∷ entries self.new.rest.now) × (bytes_of x ≡ take 6 self.old.rest.now)) }
+    /// How the book is cleared.
+    pub fn way(&self) -> Way
+        ensures { way_code result ≡ self.now.header.way }
     {
+        Way::try_from(self.header.way).unwrap()
+    }
+
+    /// How the longer side of its uniform rounds is shared.
+    pub fn sharing(&self) -> Sharing
+        ensures { sharing_code result ≡ self.now.header.sharing }
+    {
+        Sharing::try_from(self.header.sharing).unwrap()
+    }
+}
+
+/// Hands out the records.
+impl<'a> Iterator for Book<'a> {
+    type Item = Record<'a>;
+
+    ghost next_gives = { λ before given after. (after.header ≡ before.header) × YieldsFirstBy value_of (λ b. entries b.rest.now) before given after × IfSome given (λ x. bytes_of x ≡ take 6 before.rest.now) };
+
+    ghost remaining = { λ book. at_most (length (entries book.rest.now)) };
+
+    #[tactic(auto, using(crate::proofs::Words::entries_step, crate::proofs::Words::fewer, crate::proofs::Words::no_rounds_rest))]
+    fn next(&mut self) -> Option<Record<'a>> {
         let s = self.rest;
         let [_, _, _, _, _, _, rest @ ..] = s else {
             return None;
         };
-        let Some(six) = s.first_chunk::<6>() else {
-            return None;
-        };
+        let six = s.first_chunk::<6>()?;
         self.rest = rest;
-        Some(Record::of(six))
+        Some(Record::from(six))
     }
 }

@@ -1,4 +1,5 @@
 //! What a book holds: its header and its records, as plain values.
+// Way, sharing, side and kind stay numbers here: `write` takes any number and answers its fault, which an enum could not ask.
 
 /// The header's values. The form, the record count and the spare bits are not among them: writing fills them in.
 #[derive(Clone, Copy, PartialEq, Eq, Debug)]

@@ -1,13 +1,15 @@
 //! Writes a book into a buffer that the caller lends.
 ghost use Rattle.std.specs.Prelude.{◌≡◌, ℕ, ◌+◌, ◌-◌, ◌*◌, ◌<◌, ◌≤◌, List, ◌++◌, map, length, take, drop, IfOk, Ok, Result};
+ghost use Rattle.std.specs.Result.{result_err};
 ghost use Rattle.packing.specs.Fields.{bytes};
-ghost use Rattle.book.specs.Questions.{value_questions, record_questions, first_no, fault_or, first_fault};
+ghost use Rattle.book.specs.Questions.{Asked, first_no, first_fault};
+ghost use Rattle.book.specs.declared.values.Entry.{Entry};
 ghost use Rattle.book.specs.Reading.{read_book};
 ghost use Rattle.book.specs.Writing.{header_word, entry_word, header_fits, entry_fits, fit_questions, read_questions, book_length, encode, write_fault, write as written};
 
 use crate::fault::{Fault, Question};
 use crate::layout::*;
-use crate::reading::{record_no, values_no};
+use crate::reading::{ask_record, ask_values};
 use crate::values::{Entry, Header, Placement, Withdrawal};
 use packing::bytes_of;
 
@@ -85,81 +87,48 @@ fn header_word(h: Header, count: usize) -> u64
         + COUNT.embed(count as u64)
 }
 
-fn fit_no(entry: Entry) -> Option<Question>
-    ensures { result ≡ first_no (fit_questions entry) }
-{
-    if entry_fits(entry) {
-        None
-    } else {
-        Some(Question::Fit)
-    }
-}
-
-fn read_no(way: u8, entry: Entry) -> Option<Question>
-    ensures { result ≡ first_no (read_questions way entry) }
-{
-    record_no(way, entry_word(entry))
-}
-
-/// The first record whose values do not fit.
-fn first_unfit(entries: &[Entry]) -> Option<Fault>
-    ensures { result ≡ first_fault fit_questions 1 entries.now }
+/// Puts its questions to each record in turn.
+fn ask_each<F: Fn(Entry) -> Result<(), Question>>(entries: &[Entry], ask: F) -> Result<(), Fault>
+    ghost asks: { Entry → List Asked }
+    requires callable { F.IsAlwaysCallable ask }
+    requires answers { (e : Entry) (r : _) → F.post ask e r → result_err r ≡ first_no (asks e) }
+    ensures { result_err result ≡ first_fault asks 1 entries.now }
 {
     for (i, entry) in entries.iter().enumerate() {
-        if let Some(question) = fit_no(*entry) {
-            return Some(Fault {
+        if let Err(question) = ask(*entry) {
+            return Err(Fault {
                 question,
                 record: i + 1,
             });
         }
     }
-    None
+    Ok(())
 }
 
-/// The first record that would not read.
-fn first_unread(way: u8, entries: &[Entry]) -> Option<Fault>
-    ensures { result ≡ first_fault (read_questions way) 1 entries.now }
+/// Puts the questions of writing into a buffer of `len` bytes.
+fn ask_write(header: Header, entries: &[Entry], len: usize) -> Result<(), Fault>
+    ensures { result_err result ≡ write_fault header entries.now len }
 {
-    for (i, entry) in entries.iter().enumerate() {
-        if let Some(question) = read_no(way, *entry) {
-            return Some(Fault {
-                question,
-                record: i + 1,
-            });
-        }
-    }
-    None
-}
-
-/// The first fault of writing into a buffer of `len` bytes.
-fn write_fault(header: Header, entries: &[Entry], len: usize) -> Option<Fault>
-    ensures { result ≡ write_fault header entries.now len }
-{
-    if !header_fits(header, entries.len()) {
-        return Some(Fault {
-            question: Question::Fit,
-            record: 0,
-        });
-    }
-    if let Some(fault) = first_unfit(entries) {
-        return Some(fault);
-    }
-    if len < SIX + SIX * entries.len() {
-        return Some(Fault {
-            question: Question::Room,
-            record: 0,
-        });
-    }
-    if let Some(question) = values_no(header.way, header.sharing, header.reference) {
-        return Some(Fault {
-            question,
-            record: 0,
-        });
-    }
-    first_unread(header.way, entries)
+    Question::Fit.ask(header_fits(header, entries.len()))?;
+    ask_each(
+        entries,
+        |entry: Entry| -> Result<(), Question>
+            ensures { result_err result ≡ first_no (fit_questions entry) }
+        { Question::Fit.ask(entry_fits(entry)) },
+    )?;
+    Question::Room.ask(SIX + SIX * entries.len() <= len)?;
+    ask_values(header)?;
+    let way = header.way;
+    ask_each(
+        entries,
+        move |entry: Entry| -> Result<(), Question>
+            ensures { result_err result ≡ first_no (read_questions way entry) }
+        { ask_record(way, entry_word(entry)) },
+    )
 }
 
 /// Puts six bytes at a place.
+#[tactic(auto, using(crate::proofs::Buffers::put_six))]
 fn put(out: &mut [u8], at: usize, six: [u8; 6])
     requires { at + 6 ≤ length out.old }
     ensures { out.new ≡ take at out.old ++ (six ++ drop (at + 6) out.old) }
@@ -173,21 +142,18 @@ fn put_all(header: Header, entries: &[Entry], out: &mut [u8]) -> usize
     ensures bytes { out.new ≡ encode header entries.now ++ drop (book_length entries.now) out.old }
 {
     put(out, 0, bytes_of(header_word(header, entries.len())));
-    let mut at = SIX;
-    for entry in entries {
-        put(out, at, bytes_of(entry_word(*entry)));
-        at += SIX;
+    for (i, entry) in entries.iter().enumerate() {
+        put(out, SIX + SIX * i, bytes_of(entry_word(*entry)));
     }
-    at
+    SIX + SIX * entries.len()
 }
 
 /// Writes a book to the front of a buffer and answers its length. The bytes behind stay, and a fault leaves all as it was.
+#[tactic(auto, using(crate::proofs::RoundTrip::write_room, crate::proofs::RoundTrip::reads_written))]
 pub fn write(header: Header, entries: &[Entry], out: &mut [u8]) -> Result<usize, Fault>
     ensures answers { ◌≡◌ {A = Result ℕ Fault × List ℕ} (result, out.new) (written header entries.now out.old) }
     ensures reads { IfOk result (λ n. read_book (take n out.new) ≡ Ok (header, entries.now)) }
 {
-    match write_fault(header, entries, out.len()) {
-        Some(fault) => Err(fault),
-        None => Ok(put_all(header, entries, out)),
-    }
+    ask_write(header, entries, out.len())?;
+    Ok(put_all(header, entries, out))
 }

@@ -48,6 +48,7 @@ impl Field {
     }
 
     /// Whether a value fits the field.
+    #[tactic(auto, using(crate::proofs::Cuts::lowest_whole))]
     pub fn fits(self, value: u64) -> bool
         ensures { result ≡ nat_lt value (2 ^ self.width) }
     {
@@ -55,6 +56,7 @@ impl Field {
     }
 
     /// As many of a value's lowest bits as the field has.
+    #[tactic(auto, using(crate::proofs::Cuts::mod_wide))]
     fn lowest(self, value: u64) -> u64
         ensures { result ≡ value % 2 ^ self.width }
     {
@@ -74,6 +76,7 @@ impl Field {
 }
 
 /// The fields of a layout and its word determine each other.
+#[tactic(auto, using(crate::proofs::Cuts::fields_give_the_word, crate::proofs::Cuts::values_come_back, crate::proofs::Cuts::words_fit))]
 pub fn layouts_pack()
     ensures fields { FieldsGiveTheWord }
     ensures values { ValuesComeBack }

@@ -3,5 +3,5 @@ use Rattle.std.specs.List.{flat_map}
 use Rattle.book.specs.Writing.{entry_bytes}
 use Rattle.book.proofs.writing.put_all.Given as goal
 
-abbrev pub invariant-loop-entry : goal.invariant-loop-entry
-invariant-loop-entry l = (l.at ≡ 6 + 6 * l.entry-index) × (l.out ≡ (take 6 l.initial.out ++ flat_map entry_bytes (take l.entry-index l.entries)) ++ drop l.at l.initial.out)
+abbrev pub invariant-loop-i : goal.invariant-loop-i
+invariant-loop-i l = l.out ≡ (take 6 l.initial.out ++ flat_map entry_bytes (take l.i l.entries)) ++ drop (6 + 6 * l.i) l.initial.out
