@@ -121,10 +121,10 @@ fn part_of<T: Turns>(turns: &T, quantity: u32, level: u128, spare: u128) -> u32
     ensures { result ≡ got (T.Turns.key turns.now) (T.Turns.claim turns.now) level spare quantity }
 {
     let (key, claim) = (turns.key(quantity), turns.claim(quantity));
-    if key > level || (key == level && (claim as u128) < spare) {
+    if key > level {
         claim
     } else if key == level {
-        spare as u32
+        spare.min(claim as u128) as u32
     } else {
         0
     }
