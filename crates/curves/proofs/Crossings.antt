@@ -67,7 +67,7 @@ crosses_says top D S p h e =
     let (b1, b2) = and_parts (leb (before S p) (volume top D S)) (leb (volume top D S) (S p)) b in
     record { tick = h; above = leb-true _ _ a1; demanded = leb-true _ _ a2; below = leb-true _ _ b1; supplied = leb-true _ _ b2 }
 
-crosses_when : (top : ℕ) (D S : ℕ → ℕ) (p : ℕ) → Crossing top D S p → crosses (volume top D S) D S p ≡ true
+pub crosses_when : (top : ℕ) (D S : ℕ → ℕ) (p : ℕ) → Crossing top D S p → crosses (volume top D S) D S p ≡ true
 crosses_when top D S p c =
     and_from _ _ (and_from _ _ (le-leb _ _ c.above) (le-leb _ _ c.demanded)) (and_from _ _ (le-leb _ _ c.below) (le-leb _ _ c.supplied))
 

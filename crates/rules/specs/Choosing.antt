@@ -1,12 +1,12 @@
 -- The price by principles is a tick, with executable volume V where V is above 0.
 use Rattle.std.specs.Prelude.{◌≡◌, ℕ, zero, suc, ◌+◌, ◌-◌, ◌<◌, ◌≤◌, min, max, Bool, true, false, cond, ◌⊎◌, ◌==◌, refl}
-use Rattle.std.proofs.Common.{inl, inr, arith, add-one}
+use Rattle.std.proofs.Common.{sym, inl, inr, arith, add-one}
 use Rattle.std.proofs.lemmas.Bool.{cases_eq, cases_lt, cases_Bool, and_parts, and_from, or_left, eqb-true, eqb-false, eq-eqb, ne_eqb, ltb-true, not_from_false, cond_both}
 use Rattle.curves.specs.Sums.{lowest, highest}
 use Rattle.curves.specs.Curves.{Curves, executable, volume}
 use Rattle.curves.proofs.Sums.{greatest_le, greatest_at, lowest_le, lowest_passes, highest_ge, highest_passes}
 use Rattle.rules.specs.Prices.{smallest, none, candidate, unbalance, least_unbalance, kept_ticks, over, under, clamp, choice, principles_price}
-use Rattle.ticks.proofs.Ends.{lowest_most, highest_most}
+use Rattle.ticks.proofs.Ends.{lowest_most, lowest_never, highest_never}
 
 pub smallest_none : (P : ℕ → Bool) (f : ℕ → ℕ) (d : ℕ) → smallest 0 P f d ≡ d
 unfolding smallest
@@ -52,17 +52,31 @@ met n P some =
     let h : lowest n P < n = omega (arith, eqb-false (lowest n P) n some) in
     (h, lowest_passes n P h)
 
--- whatever is kept, the choice is a tick
-pub choice_is_tick : (top u : ℕ) (K : ℕ → Bool) (D S : ℕ → ℕ) (r : ℕ) → choice (suc top) u K D S r ≤ top
-choice_is_tick top u K D S r =
-    let high = highest_most top K in
-    let Tick = λ (p : ℕ). p ≤ top in
-    cond_both (u == 0) _ _ Tick (λ _. omega arith)
-    (λ _. cond_both (none (suc top) (under K D S)) _ _ Tick (λ _. high)
-    (λ some. let (h, y) = met (suc top) (under K D S) some in
-    cond_both (none (suc top) (over K D S)) _ _ Tick
-    (λ _. let (k, _) = and_parts (K (lowest (suc top) (under K D S))) _ y in omega (arith, lowest_le (suc top) K _ h k))
-    (λ _. omega arith)))
+module _ (n u : ℕ) (K : ℕ → Bool) (D S : ℕ → ℕ) (r : ℕ) where
+  -- a test that is met nowhere, and one that is met
+  none_holds : (P : ℕ → Bool) → ((p : ℕ) → p < n → P p ≡ false) → none n P ≡ true
+  none_holds P never = eq-eqb (lowest n P) n (sym (lowest_never n P never))
+
+  none_fails : (P : ℕ → Bool) (p : ℕ) → p < n → P p ≡ true → none n P ≡ false
+  none_fails P p h y = ne_eqb (lowest n P) n (λ e. omega (arith, lowest_le n P p h y))
+
+  -- the choice by cases
+  pub none_kept : ((p : ℕ) → p < n → K p ≡ false) → 0 ≡ choice n u K D S r
+  none_kept never =
+      let high = highest_never n K never in
+      let no-under = none_holds (under K D S) (λ p h. rw (never p h) refl) in
+      cond_both (u == 0) _ _ (λ (x : ℕ). 0 ≡ x) (λ _. omega arith) (λ _. rw no-under high)
+
+  module _ (unbalanced : 0 < u) where
+    pub none_under : ((p : ℕ) → p < n → under K D S p ≡ false) → highest n K ≡ choice n u K D S r
+    none_under never = rw (ne_eqb u 0 (λ e. omega arith), none_holds (under K D S) never) refl
+
+    pub none_over : (q : ℕ) → q < n → under K D S q ≡ true → ((p : ℕ) → p < n → over K D S p ≡ false) → lowest n K ≡ choice n u K D S r
+    none_over q h y never = rw (ne_eqb u 0 (λ e. omega arith), none_fails (under K D S) q h y, none_holds (over K D S) never) refl
+
+    pub over_and_under : (q p : ℕ) → q < n → under K D S q ≡ true → p < n → over K D S p ≡ true →
+        clamp r (highest n (over K D S)) (lowest n (under K D S)) ≡ choice n u K D S r
+    over_and_under q p hq yq hp yp = rw (ne_eqb u 0 (λ e. omega arith), none_fails (under K D S) q hq yq, none_fails (over K D S) p hp yp) refl
 
 module _ (top : ℕ) (D S : ℕ → ℕ) (c : Curves top D S) where
   -- a tick between two of executable volume V

@@ -1,4 +1,5 @@
 pub mod Prices
+pub mod Tests
 pub mod Sharing
 pub mod Pairs
 pub mod Examples

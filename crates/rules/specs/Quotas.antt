@@ -9,7 +9,7 @@ use Rattle.std.proofs.lemmas.Bool.{cases_lt}
 use Rattle.curves.specs.Sums.{total}
 use Rattle.curves.specs.Sharing.{SharingLaw}
 use Rattle.curves.proofs.Sums.{total_le, total_same, total_add, total_zero, total_scale}
-use Rattle.turns.specs.Turns.{goes_first, in_turn, of_place, by_turns}
+use Rattle.turns.specs.Turns.{goes_first, in_turn, of_place, by_turns, by_key}
 use Rattle.rules.specs.Sharing.{share_at, FilledFirst, UnitsFirst, earliest_first, largest_first, given, part, remainder, unit, pro_rata}
 use Rattle.turns.proofs.Shares.{claim_first, turns_share, total_sumBy, turns_length, turns_within, turns_sum}
 
@@ -17,7 +17,7 @@ nothing : (xs : List ℕ) → sum_by (λ (q : ℕ). 0) xs ≡ 0
 nothing xs = let e = total_sumBy (λ q. 0) xs in omega (arith, total_zero (length xs))
 
 -- each claims its quantity, by whatever key
-pub claims_law : (key : ℕ → ℕ) → SharingLaw (by_turns (λ q. 0) key (λ q. q))
+pub claims_law : (key : ℕ → ℕ) → SharingLaw (by_key key)
 claims_law key =
     record {
       whole = turns_length (λ q. 0) key (λ q. q);
@@ -111,7 +111,7 @@ pro_rata_law =
 
 -- ---- the turns are kept
 
-pub filled_first : (key : ℕ → ℕ) → FilledFirst key (by_turns (λ q. 0) key (λ q. q))
+pub filled_first : (key : ℕ → ℕ) → FilledFirst key (by_key key)
 filled_first key amount group i j hi hj first some =
     let at_i = turns_share (λ q. 0) key (λ q. q) amount group i hi in
     let at_j = turns_share (λ q. 0) key (λ q. q) amount group j hj in

@@ -1,15 +1,15 @@
 -- The sharing rules that ship, all by turns.
 use Rattle.std.specs.Prelude.{◌≡◌, ℕ, ◌+◌, ◌-◌, ◌*◌, ◌/◌, ◌%◌, ◌<◌, min, true, ◌⊎◌, List, length, sum_by, sum, slice_index}
 use Rattle.curves.specs.Sharing.{SharingMeaning}
-use Rattle.turns.specs.Turns.{goes_first, of_place, by_turns}
+use Rattle.turns.specs.Turns.{goes_first, of_place, by_turns, by_key}
 
 -- earliest first: all keys are equal, and each claims its quantity
 abbrev pub earliest_first : SharingMeaning
-earliest_first = by_turns (λ q. 0) (λ q. 0) (λ q. q)
+earliest_first = by_key (λ q. 0)
 
 -- largest first, then earlier
 abbrev pub largest_first : SharingMeaning
-largest_first = by_turns (λ q. 0) (λ q. q) (λ q. q)
+largest_first = by_key (λ q. q)
 
 -- pro rata: the amount, cut to the group's total
 abbrev pub given : ℕ → List ℕ → ℕ

@@ -1,8 +1,7 @@
 //! The crossing of demand and supply.
 ghost use Rattle.std.specs.Prelude.{◌≡◌};
-ghost use Rattle.curves.specs.Curves.{volume};
 ghost use Rattle.curves.specs.Crossing.{crosses, crossing_middle};
-ghost use Rattle.ticks.specs.Seen.{demand_of, supply_of};
+ghost use Rattle.ticks.specs.Seen.{demand_of, supply_of, greatest_volume};
 ghost use Rattle.ticks.specs.Ticks.{highest_tick};
 
 use ticks::figures::Figures;
@@ -13,27 +12,25 @@ use ticks::tick::Tick;
 #[derive(Drop)]
 struct InRange<'a> {
     figures: &'a Figures,
-    volume: u64,
 }
 
 impl<'a> TickTest for InRange<'a> {
-    ghost passing = { λ t. crosses t.volume (demand_of t.figures.now) (supply_of t.figures.now) };
+    ghost passing = { λ t. crosses (greatest_volume t.figures.now) (demand_of t.figures.now) (supply_of t.figures.now) };
 
     fn passes(&self, tick: Tick) -> bool {
-        (self.figures.demand_above(tick) <= self.volume
-            && self.volume <= self.figures.demand_at(tick))
-            && (self.figures.supply_below(tick) <= self.volume
-                && self.volume <= self.figures.supply_at(tick))
+        let (figures, volume) = (self.figures, self.figures.volume());
+        (figures.demand_above(tick) <= volume && volume <= figures.demand_at(tick))
+            && (figures.supply_below(tick) <= volume && volume <= figures.supply_at(tick))
     }
 }
 
-/// V and the crossing price: half the sum of the ends of the crossing range; a half tick rounds up.
+/// V and the crossing price: half the sum of the ends of the crossing range, which is never empty.
 pub fn crossing(figures: &Figures) -> (u64, Tick)
-    ensures volume { result.0 ≡ volume highest_tick (demand_of figures.now) (supply_of figures.now) }
+    ensures volume { result.0 ≡ greatest_volume figures.now }
     ensures tick { result.1.value ≡ crossing_middle highest_tick (demand_of figures.now) (supply_of figures.now) }
 {
-    let volume = figures.volume();
-    let range = InRange { figures, volume };
-    let middle = (lowest_tick(&range) + highest_tick(&range) + 1) / 2;
-    (volume, Tick { value: middle })
+    let range = InRange { figures };
+    let low = lowest_tick(&range).unwrap();
+    let high = highest_tick(&range).unwrap();
+    (figures.volume(), low.halfway(high))
 }

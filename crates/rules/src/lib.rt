@@ -10,6 +10,7 @@ mod principles;
 pub mod sharing;
 
 /// Worked examples of the rules that ship, derived from their definitions.
+#[tactic(auto, using(crate::proofs::Worked::examples))]
 pub fn examples_hold()
     ensures { Examples }
 {}

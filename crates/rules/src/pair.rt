@@ -54,9 +54,7 @@ impl PairPrice for HalfTheSum {
     ghost between = { Prim.search rules };
 
     fn price(&self, buy: Tick, sell: Tick, buy_is_earlier: bool) -> Tick {
-        Tick {
-            value: (buy.value + sell.value + 1) / 2,
-        }
+        Tick::halfway(buy, sell)
     }
 }
 

@@ -1,8 +1,9 @@
 //! The price by principles: of the limits with executable volume V, those with the smallest unbalance.
 ghost use Rattle.std.specs.Prelude.{◌≡◌, suc};
-ghost use Rattle.ticks.specs.Seen.{demand_of, supply_of};
+ghost use Rattle.ticks.specs.Seen.{demand_of, supply_of, greatest_volume};
 ghost use Rattle.ticks.specs.Ticks.{highest_tick};
-ghost use Rattle.rules.specs.Prices.{candidate, unbalance, least_unbalance, kept_ticks, over, under, choice, principles_price};
+ghost use Rattle.rules.specs.Tests.{candidates, kept_of, leaning};
+ghost use Rattle.rules.specs.Prices.{unbalance, least_unbalance, choice, principles_price};
 
 use ticks::figures::Figures;
 use ticks::search::{TickTest, highest_tick, lowest_tick};
@@ -12,67 +13,53 @@ use ticks::tick::{HIGHEST, Tick};
 #[derive(Clone, Copy)]
 struct Candidate<'a> {
     figures: &'a Figures,
-    volume: u64,
 }
 
 impl<'a> TickTest for Candidate<'a> {
-    ghost passing = { λ t. candidate t.volume (demand_of t.figures.now) (supply_of t.figures.now) };
+    ghost passing = { λ t. candidates t.figures.now };
 
     fn passes(&self, tick: Tick) -> bool {
-        let (demand, supply) = (self.figures.demand_at(tick), self.figures.supply_at(tick));
-        demand.min(supply) == self.volume
-            && (demand != self.figures.demand_above(tick)
-                || supply != self.figures.supply_below(tick))
+        let figures = self.figures;
+        let (demand, supply) = (figures.demand_at(tick), figures.supply_at(tick));
+        demand.min(supply) == figures.volume()
+            && (demand != figures.demand_above(tick) || supply != figures.supply_below(tick))
     }
 }
 
 /// A candidate is kept: its unbalance is the smallest.
 #[derive(Clone, Copy)]
 struct Kept<'a> {
-    figures: &'a Figures,
-    volume: u64,
+    candidate: Candidate<'a>,
     least: u64,
 }
 
 impl<'a> TickTest for Kept<'a> {
-    ghost passing = { λ t. kept_ticks t.volume t.least (demand_of t.figures.now) (supply_of t.figures.now) };
+    ghost passing = { λ t. kept_of t.candidate.figures.now t.least };
 
     fn passes(&self, tick: Tick) -> bool {
-        let candidate = Candidate {
-            figures: self.figures,
-            volume: self.volume,
+        self.candidate.passes(tick) && unbalance_at(self.candidate.figures, tick) == self.least
+    }
+}
+
+/// A kept tick has demand above supply, or else supply above demand.
+#[derive(Drop)]
+struct Leaning<'a> {
+    kept: Kept<'a>,
+    over: bool,
+}
+
+impl<'a> TickTest for Leaning<'a> {
+    ghost passing = { λ t. leaning t.over t.kept.candidate.figures.now t.kept.least };
+
+    fn passes(&self, tick: Tick) -> bool {
+        let figures = self.kept.candidate.figures;
+        let (demand, supply) = (figures.demand_at(tick), figures.supply_at(tick));
+        let leans = if self.over {
+            supply < demand
+        } else {
+            demand < supply
         };
-        candidate.passes(tick) && unbalance_at(self.figures, tick) == self.least
-    }
-}
-
-/// A kept tick has demand above supply.
-#[derive(Drop)]
-struct Over<'a> {
-    kept: Kept<'a>,
-}
-
-impl<'a> TickTest for Over<'a> {
-    ghost passing = { λ t. over (kept_ticks t.kept.volume t.kept.least (demand_of t.kept.figures.now) (supply_of t.kept.figures.now)) (demand_of t.kept.figures.now) (supply_of t.kept.figures.now) };
-
-    fn passes(&self, tick: Tick) -> bool {
-        let figures = self.kept.figures;
-        self.kept.passes(tick) && figures.supply_at(tick) < figures.demand_at(tick)
-    }
-}
-
-/// A kept tick has supply above demand.
-#[derive(Drop)]
-struct Under<'a> {
-    kept: Kept<'a>,
-}
-
-impl<'a> TickTest for Under<'a> {
-    ghost passing = { λ t. under (kept_ticks t.kept.volume t.kept.least (demand_of t.kept.figures.now) (supply_of t.kept.figures.now)) (demand_of t.kept.figures.now) (supply_of t.kept.figures.now) };
-
-    fn passes(&self, tick: Tick) -> bool {
-        let figures = self.kept.figures;
-        self.kept.passes(tick) && figures.demand_at(tick) < figures.supply_at(tick)
+        self.kept.passes(tick) && leans
     }
 }
 
@@ -80,61 +67,51 @@ impl<'a> TickTest for Under<'a> {
 fn unbalance_at(figures: &Figures, tick: Tick) -> u64
     ensures { result ≡ unbalance (demand_of figures.now) (supply_of figures.now) tick.value }
 {
-    let (demand, supply) = (figures.demand_at(tick), figures.supply_at(tick));
-    if supply < demand {
-        demand - supply
-    } else {
-        supply - demand
-    }
+    figures.demand_at(tick).abs_diff(figures.supply_at(tick))
 }
 
 /// The smallest unbalance of all candidates.
-fn least_unbalance(test: Candidate) -> u64
-    ensures { result ≡ least_unbalance highest_tick test.entry.volume (demand_of test.entry.figures.now) (supply_of test.entry.figures.now) }
+#[tactic(auto, using(crate::specs::Choosing::smallest_none, crate::specs::Choosing::smallest_more))]
+fn least_unbalance(candidate: Candidate) -> u64
+    ensures { result ≡ least_unbalance highest_tick (greatest_volume candidate.entry.figures.now) (demand_of candidate.entry.figures.now) (supply_of candidate.entry.figures.now) }
 {
-    let figures = test.figures;
+    let figures = candidate.figures;
     let all_demand = figures.demand_at(Tick { value: 0 });
     let all_supply = figures.supply_at(Tick { value: HIGHEST });
     let mut least = all_demand.max(all_supply);
     for value in 0..=HIGHEST {
         let tick = Tick { value };
-        if test.passes(tick) {
+        if candidate.passes(tick) {
             least = least.min(unbalance_at(figures, tick));
         }
     }
     least
 }
 
-/// The choice among the ticks that are kept.
-fn chosen(kept: Kept, reference: u16) -> u16
-    ensures { result ≡ choice (suc highest_tick) kept.entry.least (kept_ticks kept.entry.volume kept.entry.least (demand_of kept.entry.figures.now) (supply_of kept.entry.figures.now)) (demand_of kept.entry.figures.now) (supply_of kept.entry.figures.now) reference }
+/// The choice among the ticks that are kept, tick 0 where none is.
+fn chosen(kept: Kept, reference: Tick) -> Tick
+    ensures { result.value ≡ choice (suc highest_tick) kept.entry.least (kept_of kept.entry.candidate.figures.now kept.entry.least) (demand_of kept.entry.candidate.figures.now) (supply_of kept.entry.candidate.figures.now) reference.value }
 {
+    let (Some(low), Some(high)) = (lowest_tick(&kept), highest_tick(&kept)) else {
+        return Tick { value: 0 };
+    };
     if kept.least == 0 {
-        return reference.max(lowest_tick(&kept)).min(highest_tick(&kept));
+        return reference.max(low).min(high);
     }
-    let high = lowest_tick(&Under { kept });
-    if high > HIGHEST {
-        return highest_tick(&kept);
-    }
-    let over = Over { kept };
-    if lowest_tick(&over) > HIGHEST {
-        return lowest_tick(&kept);
-    }
-    reference.max(highest_tick(&over)).min(high)
+    let Some(under) = lowest_tick(&Leaning { kept, over: false }) else {
+        return high;
+    };
+    let Some(over) = highest_tick(&Leaning { kept, over: true }) else {
+        return low;
+    };
+    reference.max(over).min(under)
 }
 
 /// The price by principles.
 pub fn principles(figures: &Figures, reference: Tick) -> Tick
     ensures { result.value ≡ principles_price highest_tick (demand_of figures.now) (supply_of figures.now) reference.value }
 {
-    let volume = figures.volume();
-    let least = least_unbalance(Candidate { figures, volume });
-    let kept = Kept {
-        figures,
-        volume,
-        least,
-    };
-    Tick {
-        value: chosen(kept, reference.value),
-    }
+    let candidate = Candidate { figures };
+    let least = least_unbalance(candidate);
+    chosen(Kept { candidate, least }, reference)
 }

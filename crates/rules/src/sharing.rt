@@ -2,10 +2,9 @@
 ghost use Rattle.std.specs.Prelude.{◌≡◌, ◌^◌, ◌<◌, ◌≤◌, sum};
 ghost use Rattle.curves.specs.Sharing.{SharingMeaning, SharingLaw};
 ghost use Rattle.rules.specs.Sharing.{earliest_first, largest_first, part, remainder, unit, pro_rata, FilledFirst, UnitsFirst};
-ghost use Rattle.std.proofs.Common.{rules};
 ghost use Rattle.rules.specs.Quotas.{earliest_law, largest_law, part_within, pro_rata_law};
 
-use turns::{Turns, share_by_turns, sure_total};
+use turns::{ByKey, Turns, share_by_key, share_by_turns, sure_total};
 
 /// Shares an amount in a group, from its left quantities, earliest first.
 pub trait SharingRule {
@@ -22,25 +21,11 @@ pub trait SharingRule {
 #[derive(Clone, Copy)]
 pub struct EarliestFirst;
 
-impl Turns for EarliestFirst {
-    ghost sure = { λ t q. 0 };
-
+impl ByKey for EarliestFirst {
     ghost key = { λ t q. 0 };
-
-    ghost claim = { λ t q. q };
-
-    ghost within = { Prim.search rules };
-
-    fn sure(&self, quantity: u32) -> u32 {
-        0
-    }
 
     fn key(&self, quantity: u32) -> u128 {
         0
-    }
-
-    fn claim(&self, quantity: u32) -> u32 {
-        quantity
     }
 }
 
@@ -50,7 +35,7 @@ impl SharingRule for EarliestFirst {
     ghost shares = { earliest_law };
 
     fn share(&self, amount: u64, group: &mut [u32]) {
-        share_by_turns(self, amount as u128, group);
+        share_by_key(self, amount, group);
     }
 }
 
@@ -58,25 +43,11 @@ impl SharingRule for EarliestFirst {
 #[derive(Clone, Copy)]
 pub struct LargestFirst;
 
-impl Turns for LargestFirst {
-    ghost sure = { λ t q. 0 };
-
+impl ByKey for LargestFirst {
     ghost key = { λ t q. q };
-
-    ghost claim = { λ t q. q };
-
-    ghost within = { Prim.search rules };
-
-    fn sure(&self, quantity: u32) -> u32 {
-        0
-    }
 
     fn key(&self, quantity: u32) -> u128 {
         u128::from(quantity)
-    }
-
-    fn claim(&self, quantity: u32) -> u32 {
-        quantity
     }
 }
 
@@ -86,7 +57,7 @@ impl SharingRule for LargestFirst {
     ghost shares = { largest_law };
 
     fn share(&self, amount: u64, group: &mut [u32]) {
-        share_by_turns(self, amount as u128, group);
+        share_by_key(self, amount, group);
     }
 }
 
@@ -118,7 +89,7 @@ impl Turns for Quota {
     }
 
     fn claim(&self, quantity: u32) -> u32 {
-        if self.key(quantity) > 0 { 1 } else { 0 }
+        u32::from(self.key(quantity) > 0)
     }
 }
 
@@ -126,11 +97,7 @@ impl Turns for Quota {
 fn total(group: &[u32]) -> u128
     ensures { result ≡ sum group.now }
 {
-    let mut sum = 0;
-    for quantity in group {
-        sum += *quantity as u128;
-    }
-    sum
+    group.iter().map(|quantity| *quantity as u128).sum()
 }
 
 /// In proportion to the quantities, rounded down; the units left over by the largest remainder, then the earlier.

@@ -1,8 +1,10 @@
 -- The start and the step of a loop over sums, greatest values and writes by place.
-use Rattle.std.proofs.Common.{◌≡◌, ℕ, zero, suc, ◌+◌, ◌<◌, ◌≤◌, max, cond, ltb, ◌≢◌, List, length, get_or, set, refl, inl, inr, add-one, arith}
+use Rattle.std.proofs.Common.{◌≡◌, ℕ, zero, suc, ◌+◌, ◌<◌, ◌≤◌, max, min, cond, ltb, ◌≢◌, List, [], ◌∷◌, length, get_or, set, refl, inl, inr, add-one, arith}
 use Rattle.std.proofs.lemmas.Bool.{cases_eq, cases_lt, lt-ltb, le-ltb}
 use Rattle.std.proofs.lemmas.List.{get_or-set_same, get_or-set_other}
+use Rattle.std.specs.List.{fold, zip}
 use Rattle.curves.specs.Sums.{total, greatest}
+use Rattle.curves.specs.Curves.{curve, executable}
 use Rattle.curves.proofs.Sums.{total_same}
 
 pub total_none : (f : ℕ → ℕ) → total 0 f ≡ 0
@@ -25,15 +27,27 @@ total_front (suc n) m f h =
       | inr g ↦ rw (le-ltb n m g) (omega (arith, total_front n m f g))
     ]
 
--- the greatest of the first n, 0 of none
-abbrev pub peak : ℕ → (ℕ → ℕ) → ℕ
-peak zero f = 0
-peak (suc n) f = greatest n f
-
-pub peak_more : (n : ℕ) (f : ℕ → ℕ) → peak (n + 1) f ≡ max (f n) (peak n f)
+-- the first place apart
+greatest_head : (n : ℕ) (f : ℕ → ℕ) → greatest (suc n) f ≡ max (f 0) (greatest n (λ k. f (suc k)))
 unfolding greatest
-peak_more zero f = omega arith
-peak_more (suc n) f = rw add-one (omega arith)
+greatest_head zero f = refl
+greatest_head (suc n) f = omega (arith, greatest_head n f)
+
+-- the greatest executable volume, as a fold over demand and supply finds it
+fold_greatest : (a : ℕ) (d s : List ℕ) (n : ℕ) → length d ≡ suc n → length s ≡ suc n →
+    fold (λ m p. max m (min p.0 p.1)) a (zip d s) ≡ max a (greatest n (executable (curve d) (curve s)))
+unfolding greatest
+fold_greatest a (x ∷ []) (y ∷ []) zero ld ls = refl
+fold_greatest a (x ∷ ds) (y ∷ ss) (suc n) ld ls =
+    omega (arith, fold_greatest (max a (min x y)) ds ss n (omega arith) (omega arith), greatest_head n (executable (curve (x ∷ ds)) (curve (y ∷ ss))))
+fold_greatest a [] s n ld ls = absurd (omega arith)
+fold_greatest a (x ∷ ds) [] n ld ls = absurd (omega arith)
+fold_greatest a (x ∷ w ∷ ds) (y ∷ ss) zero ld ls = absurd (omega arith)
+fold_greatest a (x ∷ []) (y ∷ z ∷ ss) zero ld ls = absurd (omega arith)
+
+pub fold_volume : (d s : List ℕ) (n : ℕ) → length d ≡ suc n → length s ≡ suc n →
+    fold (λ m p. max m (min p.0 p.1)) 0 (zip d s) ≡ greatest n (executable (curve d) (curve s))
+fold_volume d s n ld ls = omega (arith, fold_greatest 0 d s n ld ls)
 
 -- ---- a loop that writes each place in turn
 

@@ -1,7 +1,7 @@
 -- The ticks, and the figures of all ticks.
 use Rattle.std.specs.Prelude.{◌≡◌, ℕ, suc, ◌≤◌, Bool, true, false, cond, ◌&&◌, List, length, ◌==◌, nat_le}
-use Rattle.curves.specs.Sums.{total}
-use Rattle.curves.specs.Curves.{curve, figures}
+use Rattle.curves.specs.Sums.{total, lowest, highest}
+use Rattle.curves.specs.Curves.{curve, figures, volume}
 use Rattle.curves.specs.Orders.{Bid, at, on, keeps, demand, supply, OnTicks}
 
 -- prices and limits are the ticks 0 to 2,000
@@ -15,6 +15,10 @@ Falls d = (p r : ℕ) → p ≤ r → curve d r ≤ curve d p
 -- supply rises up to the highest tick
 abbrev pub Rises : List ℕ → Type 0
 Rises s = (p r : ℕ) → p ≤ r → r ≤ highest_tick → curve s p ≤ curve s r
+
+-- v is the greatest executable volume of all ticks
+abbrev pub IsVolume : List ℕ → List ℕ → ℕ → Type 0
+IsVolume d s v = v ≡ volume highest_tick (curve d) (curve s)
 
 -- all of xs, what is wanted (the side true) or offered at each limit, whose limit is kept at tick p
 abbrev pub kept_at : Bool → List ℕ → ℕ → ℕ
@@ -31,6 +35,18 @@ at_limit side bs l = total (length bs) (λ k. cond (on side (at bs k) && (at bs 
 -- the figures summed from what stands at each limit
 abbrev pub summed_figures : Bool → List Bid → List ℕ
 summed_figures side bs = figures highest_tick (summed side (figures highest_tick (at_limit side bs)))
+
+-- no tick passes
+abbrev pub NonePasses : (ℕ → Bool) → Type 0
+NonePasses P = (p : ℕ) → p ≤ highest_tick → P p ≡ false
+
+-- tick p passes, and is the lowest that does
+abbrev pub IsLowest : (ℕ → Bool) → ℕ → Type 0
+IsLowest P p = (P p ≡ true) × (p ≡ lowest (suc highest_tick) P)
+
+-- tick p passes, and is the highest that does
+abbrev pub IsHighest : (ℕ → Bool) → ℕ → Type 0
+IsHighest P p = (P p ≡ true) × (p ≡ highest (suc highest_tick) P)
 
 -- ---- theorem
 

@@ -1,19 +1,22 @@
 //! What a price rule sees: demand and supply at all ticks.
-ghost use Rattle.std.specs.Prelude.{◌≡◌, suc, true, false, length};
+ghost use Rattle.std.specs.Prelude.{◌≡◌, suc, true, false, length, max, min};
+ghost use Rattle.std.specs.List.{fold, zip};
 ghost use Rattle.curves.specs.Crossing.{before};
 ghost use Rattle.curves.specs.Curves.{curve, figures, volume};
-ghost use Rattle.ticks.specs.Ticks.{highest_tick, Falls, Rises, summed, FiguresOfOrders};
+ghost use Rattle.ticks.specs.Ticks.{highest_tick, Falls, Rises, IsVolume, summed, FiguresOfOrders};
 
-use crate::tick::{HIGHEST, TICKS, Tick};
+use crate::tick::{TICKS, Tick};
 
 /// Demand and supply at all ticks, always in order: demand falls and supply rises.
 #[derive(Drop)]
 pub struct Figures {
     demand: [u64; TICKS],
     supply: [u64; TICKS],
+    volume: u64,
     ghost falls: { Falls demand },
     ghost rises: { Rises supply },
     ghost wide: { (length demand ≡ suc highest_tick) × (length supply ≡ suc highest_tick) },
+    ghost greatest: { IsVolume demand supply volume },
 }
 
 impl Figures {
@@ -23,9 +26,12 @@ impl Figures {
         ensures demand { result.demand ≡ figures highest_tick (summed true wanted.now) }
         ensures supply { result.supply ≡ figures highest_tick (summed false offered.now) }
     {
+        let (demand, supply) = (falling(wanted), rising(offered));
+        let volume = greatest_volume(&demand, &supply);
         Figures {
-            demand: falling(wanted),
-            supply: rising(offered),
+            demand,
+            supply,
+            volume,
         }
     }
 
@@ -47,11 +53,10 @@ impl Figures {
     pub fn demand_above(&self, tick: Tick) -> u64
         ensures { result ≡ curve self.now.demand (suc tick.value) }
     {
-        if tick.value < HIGHEST {
-            self.demand[tick.value as usize + 1]
-        } else {
-            0
-        }
+        self.demand
+            .get(tick.value as usize + 1)
+            .copied()
+            .unwrap_or(0)
     }
 
     /// Supply a tick below, 0 below tick 0.
@@ -69,15 +74,22 @@ impl Figures {
     pub fn volume(&self) -> u64
         ensures { result ≡ volume highest_tick (curve self.now.demand) (curve self.now.supply) }
     {
-        let mut volume = 0;
-        for tick in 0..TICKS {
-            volume = self.demand[tick].min(self.supply[tick]).max(volume);
-        }
-        volume
+        self.volume
     }
 }
 
+/// The greatest executable volume of all ticks.
+fn greatest_volume(demand: &[u64; TICKS], supply: &[u64; TICKS]) -> u64
+    ensures { result ≡ fold (λ most p. max most (min p.0 p.1)) 0 (zip demand.now supply.now) }
+{
+    demand
+        .iter()
+        .zip(supply)
+        .fold(0, |most, (demand, supply)| most.max(*demand.min(supply)))
+}
+
 /// Demand at all ticks: the sums from the highest limit down.
+// Two loops for two directions: one function for both would turn the arrays round and back, which is no plainer.
 fn falling(wanted: &[u32; TICKS]) -> [u64; TICKS]
     ensures { result ≡ figures highest_tick (summed true wanted.now) }
 {
@@ -96,8 +108,8 @@ fn rising(offered: &[u32; TICKS]) -> [u64; TICKS]
 {
     let mut supply = [0; TICKS];
     let mut sum = 0;
-    for tick in 0..TICKS {
-        sum += offered[tick] as u64;
+    for (tick, offered) in offered.iter().enumerate() {
+        sum += *offered as u64;
         supply[tick] = sum;
     }
     supply

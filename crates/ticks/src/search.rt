@@ -1,11 +1,10 @@
 //! The lowest and the highest tick that passes a test.
-ghost use Rattle.std.specs.Prelude.{◌≡◌, ℕ, suc, ◌≤◌, Bool};
-ghost use Rattle.curves.specs.Sums.{lowest, highest};
-ghost use Rattle.ticks.specs.Ticks.{highest_tick};
+ghost use Rattle.std.specs.Prelude.{◌≡◌, ℕ, ◌≤◌, Bool, MatchOption};
+ghost use Rattle.ticks.specs.Ticks.{NonePasses, IsLowest, IsHighest};
 
 use crate::tick::{HIGHEST, Tick};
 
-/// A test of ticks.
+/// A test of ticks. A trait with its meaning, and no closure: a public function may not ask that a closure may be called.
 pub trait TickTest {
     ghost passing: { Self → ℕ → Bool };
 
@@ -14,27 +13,28 @@ pub trait TickTest {
         ensures { result ≡ passing self.now tick.value };
 }
 
-/// The lowest tick that passes, one past the highest where none does.
-pub fn lowest_tick<T: TickTest>(test: &T) -> u16
-    ensures is { result ≡ lowest (suc highest_tick) (T.TickTest.passing test.now) }
-    ensures within { result ≤ suc highest_tick }
+/// The lowest tick that passes.
+pub fn lowest_tick<T: TickTest>(test: &T) -> Option<Tick>
+    ensures { MatchOption result (NonePasses (T.TickTest.passing test.now)) (λ t. IsLowest (T.TickTest.passing test.now) t.value) }
 {
     for value in 0..=HIGHEST {
-        if test.passes(Tick { value }) {
-            return value;
+        let tick = Tick { value };
+        if test.passes(tick) {
+            return Some(tick);
         }
     }
-    HIGHEST + 1
+    None
 }
 
-/// The highest tick that passes, 0 where none does.
-pub fn highest_tick<T: TickTest>(test: &T) -> u16
-    ensures { result ≡ highest (suc highest_tick) (T.TickTest.passing test.now) }
+/// The highest tick that passes.
+pub fn highest_tick<T: TickTest>(test: &T) -> Option<Tick>
+    ensures { MatchOption result (NonePasses (T.TickTest.passing test.now)) (λ t. IsHighest (T.TickTest.passing test.now) t.value) }
 {
-    for value in (0..HIGHEST + 1).rev() {
-        if test.passes(Tick { value }) {
-            return value;
+    for value in (0..=HIGHEST).rev() {
+        let tick = Tick { value };
+        if test.passes(tick) {
+            return Some(tick);
         }
     }
-    0
+    None
 }

@@ -1,5 +1,6 @@
 //! Prices and limits.
 ghost use Rattle.std.specs.Prelude.{◌≡◌, ◌<◌, ◌≤◌, MatchOption};
+ghost use Rattle.curves.specs.Crossing.{half_sum};
 ghost use Rattle.ticks.specs.Ticks.{highest_tick};
 
 /// The highest tick.
@@ -33,5 +34,14 @@ impl Tick {
         ensures within { result ≤ highest_tick }
     {
         self.value
+    }
+
+    /// Half the sum of two ticks; a half tick rounds up.
+    pub fn halfway(self, other: Tick) -> Tick
+        ensures { result.value ≡ half_sum self.value other.value }
+    {
+        Tick {
+            value: (self.value + other.value + 1) / 2,
+        }
     }
 }

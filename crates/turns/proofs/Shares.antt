@@ -1,12 +1,13 @@
 -- Sharing by turns: where the amount runs out, and what the shares add up to.
-use Rattle.std.proofs.Common.{◌≡◌, ℕ, zero, suc, ◌+◌, ◌-◌, ◌<◌, ◌≤◌, min, Bool, true, false, cond, ◌&&◌, eqb, ltb, ◌⊎◌, List, [], ◌∷◌, map, length, get_or, sum_by, sum, sym, refl, ap, ◌∙◌, inl, inr, arith}
+use Rattle.std.proofs.Common.{◌≡◌, ℕ, zero, suc, ◌+◌, ◌-◌, ◌<◌, ◌≤◌, min, Bool, true, false, cond, ◌&&◌, eqb, ltb, ◌⊎◌, List, [], ◌∷◌, map, length, get_or, sum_by, sum, filter, sym, refl, ap, ◌∙◌, inl, inr, arith}
 use Rattle.std.specs.List.{range_with_len}
 use Rattle.std.proofs.lemmas.Bool.{cases_lt, cases_order, lt-ltb, le-ltb, ltb-true, eq-eqb, ne_eqb, eqb-true, or_cases, or_left, or_right, and_parts, and_from}
-use Rattle.std.proofs.lemmas.List.Sums.{sum_by-cons}
+use Rattle.std.proofs.lemmas.List.Sums.{sum_by-cons, sum-map}
 use Rattle.std.proofs.lemmas.List.FromFn.{length-map-range_with_len, get_or-map-range_with_len}
 use Rattle.std.proofs.lemmas.List.{get_or_past}
 use Rattle.curves.specs.Sums.{total}
 use Rattle.curves.proofs.Sums.{total_le, total_same, total_add, total_zero, total_head, total_pick, total_at}
+use Rattle.curves.proofs.Groups.{sum_kept}
 use Rattle.turns.specs.Turns.{goes_first, claimed_before, in_turn, of_place, by_turns, claims_above, RunsOut, got}
 use Rattle.ticks.proofs.Steps.{total_more, total_front}
 
@@ -15,6 +16,11 @@ use Rattle.ticks.proofs.Steps.{total_more, total_front}
 pub total_sumBy : (f : ℕ → ℕ) (xs : List ℕ) → total (length xs) (of_place f xs) ≡ sum_by f xs
 total_sumBy f [] = unfold total in refl
 total_sumBy f (x ∷ xs) = omega (arith, total_head (length xs) (of_place f (x ∷ xs)), total_sumBy f xs, sum_by-cons f x xs)
+
+-- what is claimed above a key, over the places and over the quantities that have such a key
+pub above_kept : (key claim : ℕ → ℕ) (group : List ℕ) (t : ℕ) →
+    claims_above (length group) (of_place key group) (of_place claim group) t ≡ sum_by claim (filter (λ q. ltb t (key q)) group)
+above_kept key claim group t = sym (sum_kept (λ q. ltb t (key q)) 0 claim group) ∙ sum-map claim (filter (λ q. ltb t (key q)) group)
 
 sum_places : (f : ℕ → ℕ) (a n : ℕ) → sum (map f (range_with_len a n)) ≡ total n (λ k. f (a + k))
 sum_places f a zero = unfold total in refl

@@ -25,6 +25,10 @@ abbrev pub by_turns : (ℕ → ℕ) → (ℕ → ℕ) → (ℕ → ℕ) → Shar
 by_turns sure key claim amount group =
     map (λ k. of_place sure group k + in_turn (length group) (of_place key group) (of_place claim group) amount k) (range_with_len 0 (length group))
 
+-- the same by a key alone: no part is sure, and each place claims its quantity
+abbrev pub by_key : (ℕ → ℕ) → SharingMeaning
+by_key key = by_turns (λ q. 0) key (λ q. q)
+
 -- ---- how the turns are found
 
 -- what those of n places claim whose key is above t

@@ -2,7 +2,7 @@ use Rattle.std.proofs.Common.{◌≡◌, ◌+◌, ◌<◌, cond, eqb, length, ge
 use Rattle.std.proofs.lemmas.List.{ext_get_or}
 use Rattle.turns.specs.Turns.{of_place, by_turns, got}
 use Rattle.ticks.proofs.Steps.{total_none, front_more, back_more}
-use Rattle.turns.proofs.Shares.{turns_length, share_is, spare_taken, spare_kept}
+use Rattle.turns.proofs.Shares.{above_kept, turns_length, share_is, spare_taken, spare_kept}
 use Rattle.turns.proofs.share_by_turns.Goals as goal
 use Rattle.turns.proofs.share_by_turns.Goals.{then-key-level, else-key-level}
 
@@ -10,7 +10,8 @@ pub loop-quantity-init : goal.loop-quantity-init
 loop-quantity-init g c =
     let key = of_place (g.T.Turns.key c.args.turns.now) c.args.group.now in
     let claim = of_place (g.T.Turns.claim c.args.turns.now) c.args.group.now in
-    (omega (arith, total_none (λ j. cond (eqb c.level_of-level.result (key j)) (claim j) 0)), λ k h. absurd (omega arith), λ k h. refl)
+    let above = above_kept (g.T.Turns.key c.args.turns.now) (g.T.Turns.claim c.args.turns.now) c.args.group.now c.level_of-level.result in
+    (omega (arith, above, total_none (λ j. cond (eqb c.level_of-level.result (key j)) (claim j) 0)), λ k h. omega arith, λ k h. refl)
 
 pub loop-quantity-preserved : goal.loop-quantity-preserved
 loop-quantity-preserved g c =

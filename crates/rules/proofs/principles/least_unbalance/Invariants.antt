@@ -1,11 +1,11 @@
 use Rattle.std.proofs.Common.{◌≡◌, max}
-use Rattle.curves.specs.Curves.{curve}
+use Rattle.ticks.specs.Seen.{demand_of, supply_of}
 use Rattle.ticks.specs.Ticks.{highest_tick}
-use Rattle.rules.specs.Prices.{smallest, candidate, unbalance}
+use Rattle.rules.specs.Prices.{smallest, unbalance}
+use Rattle.rules.specs.Tests.{candidates}
 use Rattle.rules.proofs.principles.least_unbalance.Given as goal
 
 abbrev pub invariant-loop-value : goal.invariant-loop-value
 invariant-loop-value l =
-    let D = curve l.test.figures.now.demand in
-    let S = curve l.test.figures.now.supply in
-    l.least ≡ smallest l.value (candidate l.test.volume D S) (unbalance D S) (max (D 0) (S highest_tick))
+    let f = l.candidate.figures.now in
+    l.least ≡ smallest l.value (candidates f) (unbalance (demand_of f) (supply_of f)) (max (demand_of f 0) (supply_of f highest_tick))
