@@ -182,11 +182,8 @@ impl<'a, Q: OrderQuote> Places<Q> for Quotes<'a, Q> {
     }
 
     fn at(&self, place: usize) -> Option<Q> {
-        if place < self.orders.len() && self.orders[place].left > 0 {
-            Some(Q::make(&self.orders[place]))
-        } else {
-            None
-        }
+        let order = self.orders.get(place).filter(|order| order.left > 0)?;
+        Some(Q::make(order))
     }
 }
 
