@@ -1,5 +1,5 @@
 -- The best so far is ahead of all others, at each place in turn.
-use Rattle.std.proofs.Common.{◌≡◌, ℕ, zero, suc, ◌+◌, ◌<◌, Bool, Some, None, Option, sym, refl, ◌∙◌, inl, inr, arith}
+use Rattle.std.proofs.Common.{◌≡◌, ℕ, zero, suc, ◌<◌, Bool, Some, None, Option, sym, refl, ◌∙◌, inl, inr, arith}
 use Rattle.std.proofs.lemmas.Bool.{cases_Bool, cases_eq, not-false}
 use Rattle.ranking.specs.Laws.{RankLaw}
 use Rattle.ranking.specs.Best.{joined, best_of, place_of, Distinct, BestAt, Found}
