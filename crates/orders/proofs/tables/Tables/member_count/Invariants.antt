@@ -4,4 +4,4 @@ use Rattle.orders.proofs.Marks.{bit}
 use Rattle.orders.proofs.tables.Tables.member_count.Given as goal
 
 abbrev pub invariant-loop-line : goal.invariant-loop-line
-invariant-loop-line l = (l.members < 2 ^ 64) × ((j : ℕ) → bit j l.members ≡ cond (has_line (take l.line-index l.lines) j) 1 0)
+invariant-loop-line l = (l.members < 2 ^ 64) × ((j : ℕ) → bit j l.members ≡ cond (has_line (take l.line-index l.line-items) j) 1 0)
