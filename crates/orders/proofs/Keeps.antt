@@ -28,54 +28,21 @@ pub record SoundOrder (k : ℕ) (o : Order) : Type 0 where
   pub left : o.left ≤ o.placed
 
 pub sound_parts : (k : ℕ) (o : Order) → sound_order k o ≡ true → SoundOrder k o
-sound_parts k o h =
-    let a = and_parts (eqb o.number (suc k)) _ h in
-    let one = and_parts (leb 1 o.member) _ a.1 in
-    let b = and_parts (leb o.member last_member) _ one.1 in
-    let d = and_parts (leb o.limit highest_tick) _ b.1 in
-    let e = and_parts (leb o.placed most_quantity) _ d.1 in
-    let f = and_parts (leb o.left o.placed) _ e.1 in
-    record {
-      number = eqb-true o.number (suc k) a.0;
-      member = leb-true o.member last_member b.0;
-      limit = leb-true o.limit highest_tick d.0;
-      placed = leb-true o.placed most_quantity e.0;
-      left = leb-true o.left o.placed f.0;
-    }
+sound_parts k o h = grind arith
 
 pub sound_take : (os : List Order) (n : ℕ) → Sound os n → Sound (take n os) n
 sound_take os n h k l = ap (sound_order k) (get_or-take n os k no_order l) ∙ h k l
 
--- an order is put at a place, one past the orders so far or among them
-pub sound_put : (os : List Order) (n m i : ℕ) (o : Order) → m ≤ length os → Sound os n → sound_order i o ≡ true →
-    ((k : ℕ) → k < m → (k ≡ i → ⊥) → k < n) → Sound (set os i o) m
-sound_put os n m i o fits h s others k l =
-    elim (cases_eq k i) [
-      | inl e ↦ ap (λ j. sound_order j (at (set os i o) j)) e ∙ ap (sound_order i) (get_or-set_same os i o no_order (omega arith)) ∙ s
-      | inr ne ↦ ap (sound_order k) (get_or-set_other os i k o no_order ne) ∙ h k (others k l ne)
-    ]
-
-pub orders_set : (os : List Order) (n i : ℕ) (o : Order) → OrdersKept os n → sound_order i o ≡ true → OrdersKept (set os i o) n
-orders_set os n i o k s = (length-set os i o ∙ k.0, k.1, sound_put os n n i o (omega (arith, k.0, k.1)) k.2 s (λ j l _. l))
-
 -- ---- what has gone
 
 left_event : (l : Life) (e : Event) (n : ℕ) → left_after l e n ≤ n
-left_event Standing (Fill q) n = omega arith
-left_event Standing Withdraw n = omega arith
-left_event Standing Kill n = omega arith
-left_event Filled e n = omega arith
-left_event Withdrawn e n = omega arith
-left_event Killed e n = omega arith
+left_event l e n = grind arith
 
 pub gone_event : (e : Event) (o : Order) → gone o ≤ gone (after e o)
 gone_event e o = omega (arith, left_event o.life e o.left)
 
 left_filled : (l : Life) (q n : ℕ) → q ≤ cond (is_standing l) n 0 → left_after l (Fill q) n + q ≡ n
-left_filled Standing q n h = omega arith
-left_filled Filled q n h = omega arith
-left_filled Withdrawn q n h = omega arith
-left_filled Killed q n h = omega arith
+left_filled l q n h = grind arith
 
 -- of an order that is filled by q, q more has gone
 gone_filled : (k q : ℕ) (o : Order) → sound_order k o ≡ true → q ≤ standing o → gone (filled_by q o) ≡ gone o + q
