@@ -3,6 +3,7 @@ use Rattle.std.proofs.Common.{◌≡◌, ℕ, suc, ◌+◌, ◌*◌, ◌<◌, �
 use Rattle.std.proofs.lemmas.List.{get_or-map, get_or-set_same, get_or-set_other, length-map}
 use Rattle.std.proofs.lemmas.List.FromFn.{fill_by_all}
 use Rattle.std.proofs.lemmas.Bool.{cond_both, cases_eq, eq-eqb, ne_eqb}
+use Rattle.std.proofs.lemmas.Grind.{elements}
 use Rattle.curves.specs.Sums.{total}
 use Rattle.curves.specs.Curves.{figures}
 use Rattle.curves.specs.Orders.{Bid, on, keeps, no_bid, OnTicks}
@@ -41,14 +42,10 @@ standing_on_most side os k h s = part_most (on side (bid (bids_of os) k)) os k h
 -- ---- what stands at each limit
 
 limited_same : (side : Bool) (b : Bid) (l : ℕ) → l ≡ b.limit → limited_at side l b ≡ standing_on side b
-limited_same side b l e =
-    let same : eqb b.limit l ≡ true = eq-eqb b.limit l (sym e) in
-    elim (on side b) as (λ x. cond (x && eqb b.limit l) b.left 0 ≡ cond x b.left 0) [ true ↦ rw same refl | false ↦ refl ]
+limited_same side b l e = grind arith
 
 limited_other : (side : Bool) (b : Bid) (l : ℕ) → (b.limit ≡ l → ⊥) → limited_at side l b ≡ 0
-limited_other side b l n =
-    let other : eqb b.limit l ≡ false = ne_eqb b.limit l n in
-    elim (on side b) as (λ x. ◌≡◌ {A = ℕ} (cond (x && eqb b.limit l) b.left 0) 0) [ true ↦ rw other refl | false ↦ refl ]
+limited_other side b l n = grind arith
 
 -- one more order adds what stands of it at its own limit, and nothing at any other
 pub limits_more : (side : Bool) (bs : List Bid) (i v : ℕ) (qs : List ℕ) (m : ℕ) → m ≡ (bid bs i).limit → m < length qs → v ≡ standing_on side (bid bs i) →
@@ -67,11 +64,7 @@ limits_more side bs i v qs m at-m lt e so_far l h =
 
 pub most_more : (i v m : ℕ) (qs : List ℕ) → m < length qs → v ≤ most_quantity → ((l : ℕ) → l < length qs → get_or qs l 0 ≤ most_quantity * i) →
     (l : ℕ) → l < length qs → get_or (set qs m (get_or qs m 0 + v)) l 0 ≤ most_quantity * (i + 1)
-most_more i v m qs lt le so_far l h =
-    elim (cases_eq l m) [
-      | inl s ↦ omega (arith, ap (λ z. get_or (set qs m (get_or qs m 0 + v)) z 0) s, get_or-set_same qs m (get_or qs m 0 + v) 0 lt, so_far m lt, le)
-      | inr n ↦ omega (arith, get_or-set_other qs m l (get_or qs m 0 + v) 0 n, so_far l h)
-    ]
+most_more i v m qs lt le so_far l h = grind (arith, elements)
 
 -- a list that holds the figures of all ticks
 pub all_figures : (f : ℕ → ℕ) (ys : List ℕ) → length ys ≡ suc highest_tick → ((k : ℕ) → k < suc highest_tick → get_or ys k 0 ≡ f k) → ys ≡ figures highest_tick f

@@ -1,5 +1,6 @@
 -- What the tables keep as one element of them changes.
 use Rattle.std.proofs.Common.{◌≡◌, ℕ, zero, suc, ◌+◌, ◌*◌, ◌<◌, ◌≤◌, true, cond, eqb, leb, List, [], ◌∷◌, length, get_or, take, set, sum_by, refl, ap, ◌∙◌, inl, inr, arith}
+use Rattle.std.proofs.Math.Seq.{take-set-lt}
 use Rattle.std.proofs.ByRecursion.{All-from_get_or, sum_by_le}
 use Rattle.std.proofs.lemmas.List.{get_or-set_same, get_or-set_other, length-set, length-take-le, get_or-take, take_more_set}
 use Rattle.std.proofs.lemmas.List.Sums.{sum_by-set, sum_by_push}
@@ -16,12 +17,6 @@ use Rattle.orders.specs.Orders.{most_orders, most_quantity, last_member, is_stan
 use Rattle.orders.specs.Settlement.{no_account, changed}
 use Rattle.orders.specs.Kept.{most_lines, dearest, Sound, SoundLines, sound_line, no_line, gone, Within, OrdersKept, LinesKept, AccountsKept}
 
-pub take_set_lt : {X : Type 0} (n : ℕ) (l : List X) (i : ℕ) (a : X) → i < n → take n (set l i a) ≡ set (take n l) i a
-take_set_lt zero l i a h = absurd (omega arith)
-take_set_lt (suc n) [] i a h = refl
-take_set_lt (suc n) (x ∷ xs) zero a h = refl
-take_set_lt (suc n) (x ∷ xs) (suc i) a h = ap (λ z. x ∷ z) (take_set_lt n xs i a (omega arith))
-
 -- ---- orders
 
 -- the parts of an order that is in order
@@ -33,58 +28,21 @@ pub record SoundOrder (k : ℕ) (o : Order) : Type 0 where
   pub left : o.left ≤ o.placed
 
 pub sound_parts : (k : ℕ) (o : Order) → sound_order k o ≡ true → SoundOrder k o
-sound_parts k o h =
-    let a = and_parts (eqb o.number (suc k)) _ h in
-    let one = and_parts (leb 1 o.member) _ a.1 in
-    let b = and_parts (leb o.member last_member) _ one.1 in
-    let d = and_parts (leb o.limit highest_tick) _ b.1 in
-    let e = and_parts (leb o.placed most_quantity) _ d.1 in
-    let f = and_parts (leb o.left o.placed) _ e.1 in
-    record {
-      number = eqb-true o.number (suc k) a.0;
-      member = leb-true o.member last_member b.0;
-      limit = leb-true o.limit highest_tick d.0;
-      placed = leb-true o.placed most_quantity e.0;
-      left = leb-true o.left o.placed f.0;
-    }
+sound_parts k o h = grind arith
 
 pub sound_take : (os : List Order) (n : ℕ) → Sound os n → Sound (take n os) n
 sound_take os n h k l = ap (sound_order k) (get_or-take n os k no_order l) ∙ h k l
 
--- an order is put at a place, one past the orders so far or among them
-pub sound_put : (os : List Order) (n m i : ℕ) (o : Order) → m ≤ length os → Sound os n → sound_order i o ≡ true →
-    ((k : ℕ) → k < m → (k ≡ i → ⊥) → k < n) → Sound (set os i o) m
-sound_put os n m i o fits h s others k l =
-    elim (cases_eq k i) [
-      | inl e ↦ ap (λ j. sound_order j (at (set os i o) j)) e ∙ ap (sound_order i) (get_or-set_same os i o no_order (omega arith)) ∙ s
-      | inr ne ↦ ap (sound_order k) (get_or-set_other os i k o no_order ne) ∙ h k (others k l ne)
-    ]
-
-pub orders_set : (os : List Order) (n i : ℕ) (o : Order) → OrdersKept os n → sound_order i o ≡ true → OrdersKept (set os i o) n
-orders_set os n i o k s = (length-set os i o ∙ k.0, k.1, sound_put os n n i o (omega (arith, k.0, k.1)) k.2 s (λ j l _. l))
-
-pub orders_more : (os : List Order) (n : ℕ) (o : Order) → OrdersKept os n → n < most_orders → sound_order n o ≡ true → OrdersKept (set os n o) (n + 1)
-orders_more os n o k l s =
-    (length-set os n o ∙ k.0, omega arith, sound_put os n (n + 1) n o (omega (arith, k.0)) k.2 s (λ j h ne. omega arith))
-
 -- ---- what has gone
 
 left_event : (l : Life) (e : Event) (n : ℕ) → left_after l e n ≤ n
-left_event Standing (Fill q) n = omega arith
-left_event Standing Withdraw n = omega arith
-left_event Standing Kill n = omega arith
-left_event Filled e n = omega arith
-left_event Withdrawn e n = omega arith
-left_event Killed e n = omega arith
+left_event l e n = grind arith
 
 pub gone_event : (e : Event) (o : Order) → gone o ≤ gone (after e o)
 gone_event e o = omega (arith, left_event o.life e o.left)
 
 left_filled : (l : Life) (q n : ℕ) → q ≤ cond (is_standing l) n 0 → left_after l (Fill q) n + q ≡ n
-left_filled Standing q n h = omega arith
-left_filled Filled q n h = omega arith
-left_filled Withdrawn q n h = omega arith
-left_filled Killed q n h = omega arith
+left_filled l q n h = grind arith
 
 -- of an order that is filled by q, q more has gone
 gone_filled : (k q : ℕ) (o : Order) → sound_order k o ≡ true → q ≤ standing o → gone (filled_by q o) ≡ gone o + q
@@ -101,7 +59,7 @@ gone_set os n i o k lt =
     let long : length (take n os) ≡ n = length-take-le n os (omega (arith, k.0, k.1)) in
     omega (
       arith,
-      ap (sum_by gone) (take_set_lt n os i o lt),
+      ap (sum_by gone) (take-set-lt n os i o lt),
       sum_by-set gone (take n os) i o no_order (omega arith),
       ap gone (get_or-take n os i no_order lt),
     )
@@ -115,53 +73,7 @@ gone_small os n k =
 
 -- ---- accounts
 
-within_more : (f : Account → ℕ) (acs : List Account) (g h : ℕ) → g ≤ h → Within f acs g → Within f acs h
-within_more f acs g h le w m l = omega (arith, w m l)
-
-within_set : (f : Account → ℕ) (acs : List Account) (g m : ℕ) (a : Account) → Within f acs g → f a ≤ dearest * g → Within f (set acs m a) g
-within_set f acs g m a w le k l =
-    let l' : k < length acs = omega (arith, length-set acs m a) in
-    elim (cases_eq k m) [
-      | inl e ↦ omega (arith, ap (λ j. f (get_or (set acs m a) j no_account)) e, ap f (get_or-set_same acs m a no_account (omega arith)))
-      | inr n ↦ omega (arith, ap f (get_or-set_other acs m k a no_account n), w k l')
-    ]
-
-accounts_wider : (os os' : List Order) (n n' : ℕ) (acs : List Account) → sum_by gone (take n os) ≤ sum_by gone (take n' os') →
-    AccountsKept os n acs → AccountsKept os' n' acs
-accounts_wider os os' n n' acs le w =
-    (w.0, within_more (λ a. a.pays) acs _ _ le w.1, within_more (λ a. a.gets) acs _ _ le w.2)
-
--- accounts stay within their bound where no order gets back what has gone of it
-pub accounts_put : (os : List Order) (n i : ℕ) (o : Order) (acs : List Account) → OrdersKept os n → AccountsKept os n acs → i < n →
-    gone (at os i) ≤ gone o → AccountsKept (set os i o) n acs
-accounts_put os n i o acs k w lt le = accounts_wider os (set os i o) n n acs (omega (arith, gone_set os n i o k lt)) w
-
-pub accounts_more : (os : List Order) (n : ℕ) (o : Order) (acs : List Account) → OrdersKept os n → AccountsKept os n acs → n < most_orders →
-    AccountsKept (set os n o) (n + 1) acs
-accounts_more os n o acs k w lt =
-    accounts_wider os (set os n o) n (n + 1) acs
-    (omega (arith, ap (sum_by gone) (take_more_set os n o (omega (arith, k.0))), sum_by_push gone (take n os) o)) w
-
-pub accounts_set : (os : List Order) (n m : ℕ) (acs : List Account) (a : Account) → AccountsKept os n acs →
-    a.pays ≤ dearest * sum_by gone (take n os) → a.gets ≤ dearest * sum_by gone (take n os) → AccountsKept os n (set acs m a)
-accounts_set os n m acs a w pays gets = (
-  length-set acs m a ∙ w.0,
-  within_set (λ z. z.pays) acs (sum_by gone (take n os)) m a w.1 pays,
-  within_set (λ z. z.gets) acs (sum_by gone (take n os)) m a w.2 gets,
-)
-
--- ---- lines
-
-pub lines_take : (ls : List Line) (n : ℕ) → SoundLines ls n → SoundLines (take n ls) n
-lines_take ls n h k l = ap sound_line (get_or-take n ls k no_line l) ∙ h k l
-
-pub lines_more : (ls : List Line) (n : ℕ) (l : Line) → LinesKept ls n → n < most_lines → sound_line l ≡ true → LinesKept (set ls n l) (n + 1)
-lines_more ls n l k lt s = (
-  length-set ls n l ∙ k.0,
-  omega arith,
-  λ j h.
-      elim (cases_eq j n) [
-        | inl e ↦ ap (λ z. sound_line (get_or (set ls n l) z no_line)) e ∙ ap sound_line (get_or-set_same ls n l no_line (omega (arith, k.0))) ∙ s
-        | inr ne ↦ ap sound_line (get_or-set_other ls n j l no_line ne) ∙ k.2 j (omega arith)
-      ],
-)
+-- an account's bound grows with what has gone, and nothing comes back as an order changes
+pub within_put : (f : Account → ℕ) (os : List Order) (n i : ℕ) (o : Order) (acs : List Account) → OrdersKept os n → i < n →
+    gone (at os i) ≤ gone o → Within f acs (sum_by gone (take n os)) → Within f acs (sum_by gone (take n (set os i o)))
+within_put f os n i o acs k lt le w m l = omega (arith, gone_set os n i o k lt, w m l)

@@ -25,11 +25,11 @@ impl Account {
         match line.side {
             Side::Buy => Account {
                 pays: self.pays + worth,
-                gets: self.gets,
+                ..self
             },
             Side::Sell => Account {
-                pays: self.pays,
                 gets: self.gets + worth,
+                ..self
             },
         }
     }
@@ -40,11 +40,9 @@ impl Ask {
     pub fn is_sound(self) -> bool
         ensures { result ≡ sound_ask self }
     {
-        1 <= self.member
-            && self.member <= LAST_MEMBER
+        (1..=LAST_MEMBER).contains(&self.member)
             && self.limit <= HIGHEST
-            && LEAST_QUANTITY <= self.quantity
-            && self.quantity <= MOST_QUANTITY
+            && (LEAST_QUANTITY..=MOST_QUANTITY).contains(&self.quantity)
     }
 
     /// The standing order of the ask, with its number.
@@ -85,7 +83,7 @@ impl Tables {
         ensures sound { Sound result.now (length result.now) }
         ensures count { length result.now ≤ most_orders }
     {
-        &self.orders[0..self.count]
+        &self.orders[..self.count]
     }
 
     /// The lines of the latest call.
@@ -94,18 +92,17 @@ impl Tables {
         ensures sound { SoundLines result.now (length result.now) }
         ensures count { length result.now ≤ most_lines }
     {
-        &self.lines[0..self.made]
+        &self.lines[..self.made]
     }
 
     /// The account of a member, an empty one past the last member.
     pub fn account(&self, member: u8) -> Account
         ensures { result ≡ account (session_of self.now).accounts member }
     {
-        if (member as usize) < MEMBERS {
-            self.accounts[member as usize]
-        } else {
-            Account::NONE
-        }
+        self.accounts
+            .get(member as usize)
+            .copied()
+            .unwrap_or(Account::NONE)
     }
 
     /// A call begins: there are no lines yet.
@@ -120,8 +117,7 @@ impl Tables {
         ensures { session_of self.new ≡ with_orders (changed place event (session_of self.old).orders) (session_of self.old) }
     {
         if place < self.count {
-            let order = self.orders[place].after(event);
-            self.orders[place] = order;
+            self.orders[place] = self.orders[place].after(event);
         }
     }
 
@@ -173,21 +169,14 @@ impl Tables {
     pub fn standing_at(&self, place: usize) -> u32
         ensures { result ≡ standing (at (session_of self.now).orders place) }
     {
-        if place < self.count {
-            self.orders[place].standing()
-        } else {
-            0
-        }
+        self.placed().get(place).map_or(0, |order| order.standing())
     }
 
     /// Whether the order has that much standing, and there is room for its line.
     fn can_trade(&self, place: usize, quantity: u32) -> bool
         ensures { result ≡ can_trade place quantity (session_of self.now) }
     {
-        if self.made >= MOST_LINES || quantity == 0 {
-            return false;
-        }
-        quantity <= self.standing_at(place)
+        self.made < MOST_LINES && quantity > 0 && quantity <= self.standing_at(place)
     }
 
     /// The line of a trade fills its order, charges its member and stands last.
@@ -212,8 +201,7 @@ impl Tables {
         ensures { session_of self.new ≡ with_charge line (session_of self.old) }
     {
         let member = line.member as usize;
-        let account = self.accounts[member].charged(line, self.period.quarters);
-        self.accounts[member] = account;
+        self.accounts[member] = self.accounts[member].charged(line, self.period.quarters);
     }
 
     /// One more line. The lines before it stay.

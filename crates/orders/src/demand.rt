@@ -17,9 +17,9 @@ impl Order {
     fn willing(self, side: Side, tick: Tick) -> u32
         ensures { result ≡ willing_at (buys side) tick.value (bid_of self) }
     {
-        match (self.side, side) {
-            (Side::Buy, Side::Buy) if tick.value <= self.limit => self.standing(),
-            (Side::Sell, Side::Sell) if self.limit <= tick.value => self.standing(),
+        match side {
+            Side::Buy if tick.value <= self.limit => self.standing_on(side),
+            Side::Sell if self.limit <= tick.value => self.standing_on(side),
             _ => 0,
         }
     }
@@ -28,9 +28,10 @@ impl Order {
     fn standing_on(self, side: Side) -> u32
         ensures { result ≡ standing_on (buys side) (bid_of self) }
     {
-        match (self.side, side) {
-            (Side::Buy, Side::Buy) | (Side::Sell, Side::Sell) => self.standing(),
-            _ => 0,
+        if self.side == side {
+            self.standing()
+        } else {
+            0
         }
     }
 }
@@ -40,9 +41,8 @@ impl Tables {
     pub fn willing(&self, side: Side, tick: Tick) -> u32
         ensures { result ≡ willing (buys side) (bids_of (session_of self.now).orders) tick.value }
     {
-        let placed = self.placed();
         let mut sum = 0;
-        for order in placed {
+        for order in self.placed() {
             sum += order.willing(side, tick);
         }
         sum
@@ -66,9 +66,8 @@ impl Tables {
     pub fn at_limits(&self, side: Side) -> [u32; TICKS]
         ensures { result ≡ figures highest_tick (at_limit (buys side) (bids_of (session_of self.now).orders)) }
     {
-        let placed = self.placed();
         let mut quantities = [0; TICKS];
-        for order in placed {
+        for order in self.placed() {
             quantities[order.limit as usize] += order.standing_on(side);
         }
         quantities

@@ -10,9 +10,8 @@ impl Tables {
     pub fn member_count(&self) -> u32
         ensures { result ≡ distinct_members (session_of self.now).lines }
     {
-        let lines = self.lines();
         let mut members = 0u64;
-        for line in lines {
+        for line in self.lines() {
             members |= 1u64 << line.member;
         }
         members.count_ones()

@@ -1,6 +1,6 @@
 //! An order with its life, the line of a trade, a member's account.
-ghost use Rattle.std.specs.Prelude.{◌≡◌, ℕ, true};
-ghost use Rattle.orders.specs.Orders.{after, sound_order, standing};
+ghost use Rattle.std.specs.Prelude.{◌≡◌, ℕ, true, not};
+ghost use Rattle.orders.specs.Orders.{buys, after, sound_order, standing};
 ghost use Rattle.orders.specs.Settlement.{line_of, worth};
 
 /// The most orders that a session numbers.
@@ -94,7 +94,20 @@ pub struct Account {
     pub gets: u64,
 }
 
+impl Side {
+    /// The other side.
+    pub fn opposite(self) -> Side
+        ensures { buys result ≡ not (buys self) }
+    {
+        match self {
+            Side::Buy => Side::Sell,
+            Side::Sell => Side::Buy,
+        }
+    }
+}
+
 impl Order {
+    // A constant, and no `Default`: a side and an order have no value that would serve where none is given.
     /// What stands in a place of a table that holds no order.
     pub const NONE: Order = Order {
         number: 0,
@@ -130,9 +143,10 @@ impl Order {
     pub fn standing(self) -> u32
         ensures { result ≡ standing self }
     {
-        match self.life {
-            Life::Standing => self.left,
-            _ => 0,
+        if self.life == Life::Standing {
+            self.left
+        } else {
+            0
         }
     }
 

@@ -18,7 +18,7 @@ impl Period {
     pub fn new(quarters: u16) -> Option<Period>
         ensures { MatchOption result (lawful_period quarters ≡ false) (λ p. (lawful_period quarters ≡ true) × (p.quarters ≡ quarters)) }
     {
-        if 1 <= quarters && quarters <= LONGEST_PERIOD {
+        if (1..=LONGEST_PERIOD).contains(&quarters) {
             Some(Period { quarters })
         } else {
             None

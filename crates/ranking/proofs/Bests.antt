@@ -1,12 +1,8 @@
 -- The best so far is ahead of all others, at each place in turn.
-use Rattle.std.proofs.Common.{◌≡◌, ℕ, zero, suc, ◌+◌, ◌<◌, Bool, Some, None, Option, sym, refl, ◌∙◌, inl, inr, add-one, arith}
+use Rattle.std.proofs.Common.{◌≡◌, ℕ, zero, suc, ◌<◌, Bool, Some, None, Option, sym, refl, ◌∙◌, inl, inr, arith}
 use Rattle.std.proofs.lemmas.Bool.{cases_Bool, cases_eq, not-false}
 use Rattle.ranking.specs.Laws.{RankLaw}
 use Rattle.ranking.specs.Best.{joined, best_of, place_of, Distinct, BestAt, Found}
-
-pub best_more : {X : Type 0} (ahead : X → X → Bool) (n : ℕ) (thing : ℕ → Option X) →
-    best_of ahead (n + 1) thing ≡ joined ahead n (thing n) (best_of ahead n thing)
-best_more ahead n thing = rw add-one refl
 
 -- Found, with the thing that is found
 abbrev Leader : {X : Type 0} → (X → X → Bool) → ℕ → (ℕ → Option X) → Option (ℕ × X) → Type 0
@@ -59,5 +55,5 @@ module _ {X : Type 0} (mark : X → ℕ) (ahead : X → X → Bool) (law : RankL
   leader zero d = λ k h. absurd (omega arith)
   leader (suc n) d = leader_more n d (thing n) refl (best_of ahead n thing) (leader n (λ j k x y a b. d j k x y (omega arith) (omega arith)))
 
-  pub best_found : (n : ℕ) (best : Option (ℕ × X)) → best ≡ best_of ahead n thing → Distinct mark n thing → Found ahead n thing (place_of best)
-  best_found n best e d = rw e (found ahead n thing (best_of ahead n thing) (leader n d))
+  pub best_found : (n : ℕ) (place : Option ℕ) → place ≡ place_of (best_of ahead n thing) → Distinct mark n thing → Found ahead n thing place
+  best_found n place e d = rw e (found ahead n thing (best_of ahead n thing) (leader n d))

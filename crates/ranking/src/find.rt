@@ -20,31 +20,21 @@ pub trait Places<T: Ranked> {
         ensures ends { size self.now ≤ place → result ≡ None };
 }
 
-/// Whether a thing is ahead of the best so far, if there is one.
-fn is_leading<T: Ranked>(thing: &T, best: &Option<(usize, T)>) -> bool
-    ensures { result ≡ leads T.Ranked.ahead thing.now best.now }
-{
-    match best {
-        Some((_, leader)) => thing.is_ahead(leader),
-        None => true,
-    }
-}
-
 /// The place of the best, which is ahead of all others where no two places hold things of one mark.
 pub fn find_best<T: Ranked + Drop, S: Places<T>>(table: &S) -> Option<usize>
     ensures is { result ≡ place_of (best_of T.Ranked.ahead (S.Places.size table.now) (S.Places.thing table.now)) }
     ensures best { Distinct T.Ranked.mark (S.Places.size table.now) (S.Places.thing table.now) → Found T.Ranked.ahead (S.Places.size table.now) (S.Places.thing table.now) result }
 {
     let mut best: Option<(usize, T)> = None;
+    // The loop goes by place, since a table of any kind answers for a place, and the place is what is asked for.
     for place in 0..table.size() {
-        if let Some(thing) = table.at(place) {
-            if is_leading(&thing, &best) {
-                best = Some((place, thing));
-            }
+        if let Some(thing) = table.at(place)
+            && best
+                .as_ref()
+                .is_none_or(|(_, leader)| thing.is_ahead(leader))
+        {
+            best = Some((place, thing));
         }
     }
-    match best {
-        Some((place, _)) => Some(place),
-        None => None,
-    }
+    best.map(|(place, _)| place)
 }

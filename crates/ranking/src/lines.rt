@@ -24,10 +24,7 @@ impl Ranked for LineKey {
     ghost ranks = { Prim.search rules };
 
     fn is_ahead(&self, other: &LineKey) -> bool {
-        self.member < other.member
-            || (self.member == other.member
-                && (self.order < other.order
-                    || (self.order == other.order && self.making < other.making)))
+        self < other
     }
 }
 
@@ -47,11 +44,7 @@ impl<'a> Places<LineKey> for Lines<'a> {
     }
 
     fn at(&self, place: usize) -> Option<LineKey> {
-        if place < self.keys.len() {
-            Some(self.keys[place])
-        } else {
-            None
-        }
+        self.keys.get(place).copied()
     }
 }
 

@@ -9,6 +9,7 @@ ghost use Rattle.std.proofs.Common.{rules};
 
 use crate::find::{Places, find_best};
 use crate::{OrderFields, OrderQuote, Quote, Ranked, Ranking, is_order_ahead};
+use std::cmp::Reverse;
 use std::marker::PhantomData;
 
 /// A side of the market.
@@ -121,14 +122,6 @@ impl TieBreak for Continuous {
     }
 }
 
-impl Ranking for Continuous {
-    type Buy = LimitQuote<Buying, Continuous>;
-
-    type Sell = LimitQuote<Selling, Continuous>;
-
-    ghost sides = { Prim.search rules };
-}
-
 /// Pairing: equal limits by the larger placed quantity, then the earlier order.
 #[derive(Clone, Copy)]
 pub struct Paired;
@@ -139,18 +132,20 @@ impl TieBreak for Paired {
     ghost ranks = { Prim.search rules };
 
     fn is_ahead(order: &OrderFields, other: &OrderFields) -> bool {
-        other.placed < order.placed || (order.placed == other.placed && order.number < other.number)
+        (Reverse(order.placed), order.number) < (Reverse(other.placed), other.number)
     }
 }
 
-impl Ranking for Paired {
-    type Buy = LimitQuote<Buying, Paired>;
+/// Every tie-break ranks the orders of both sides: the better limit first, then as it says.
+impl<T: TieBreak> Ranking for T {
+    type Buy = LimitQuote<Buying, T>;
 
-    type Sell = LimitQuote<Selling, Paired>;
+    type Sell = LimitQuote<Selling, T>;
 
     ghost sides = { Prim.search rules };
 }
 
+// `is_order_ahead` is the one text of these two: each says by name which definition it computes.
 /// Whether an order is ahead of another of its side in continuous trading.
 pub fn is_continuous_ahead<S: Side>(order: &OrderFields, other: &OrderFields) -> bool
     ensures { result ≡ continuous S.Side.buys order.now other.now }
@@ -182,11 +177,8 @@ impl<'a, Q: OrderQuote> Places<Q> for Quotes<'a, Q> {
     }
 
     fn at(&self, place: usize) -> Option<Q> {
-        if place < self.orders.len() && self.orders[place].left > 0 {
-            Some(Q::make(&self.orders[place]))
-        } else {
-            None
-        }
+        let order = self.orders.get(place).filter(|order| order.left > 0)?;
+        Some(Q::make(order))
     }
 }
 

@@ -13,7 +13,7 @@ use Rattle.orders.proofs.tables.Tables.at_limits.Goals as goal
 
 pub loop-order-init : goal.loop-order-init
 loop-order-init c =
-    let bs = bids_of c.placed-placed.result.now in
+    let bs = bids_of c.placed-order-items.result.now in
     let side = buys c.args.side in
     let zeros : List ℕ = replicate (suc highest_tick) 0 in
     let none : (m : ℕ) → m < suc highest_tick → get_or zeros m 0 ≡ 0 = λ m h. get_or-replicate {A = ℕ} (suc highest_tick) m 0 0 h in
@@ -25,7 +25,7 @@ loop-order-init c =
 
 pub loop-order-preserved : goal.loop-order-preserved
 loop-order-preserved c =
-    let os = c.placed-placed.result.now in
+    let os = c.placed-order-items.result.now in
     let i = c.loop-order.order-index in
     let side = buys c.args.side in
     let qs = c.loop-order.quantities in
@@ -33,7 +33,7 @@ loop-order-preserved c =
     let lt : i < length os = omega arith in
     let m = (at os i).limit in
     let v = c.standing_on.result in
-    let sound = c.placed-placed.ensures.sound i lt in
+    let sound = c.placed-order-items.ensures.sound i lt in
     let same = bid_at os i lt in
     let fits : m < length qs = omega (arith, (sound_parts i (at os i) sound).limit, inv.0) in
     let one : v ≡ standing_on side (bid (bids_of os) i) = c.standing_on.ensures ∙ sym (ap (standing_on side) same) in
@@ -45,11 +45,11 @@ loop-order-preserved c =
 
 pub returns : goal.returns
 returns c =
-    let os = c.placed-placed.result.now in
+    let os = c.placed-order-items.result.now in
     let i = c.loop-order.order-index in
     let side = buys c.args.side in
     let inv = c.loop-order.invariant in
     let all : i ≡ length (bids_of os) = omega (arith, length-map os bid_of) in
     all_figures (at_limit side (bids_of os)) c.loop-order.quantities inv.0
     (λ l h. inv.1 l (omega (arith, inv.0)) ∙ ap (λ n. total n (λ k. limited_at side l (bid (bids_of os) k))) all)
-    ∙ ap (λ z. figures highest_tick (at_limit side (bids_of z))) c.placed-placed.ensures.is
+    ∙ ap (λ z. figures highest_tick (at_limit side (bids_of z))) c.placed-order-items.ensures.is

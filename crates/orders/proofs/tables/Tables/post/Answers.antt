@@ -37,20 +37,6 @@ charge-requires c =
       gets = omega (arith, t.owed.2 l.member m', w, g, g', d, size, ap (λ z. (account z.accounts l.member).gets) filled);
     }
 
-pub push_line-requires : goal.push_line-requires
-push_line-requires c =
-    let t = c.args.self.now in
-    let k = c.args.place in
-    let l = c.line-line.result in
-    let e = c.line-line.ensures in
-    let long : length (take t.made t.lines) ≡ t.made = length-take-le t.made t.lines (omega (arith, t.lined.0, t.lined.1)) in
-    record {
-      room = omega (arith, ap (λ z. length z.lines) c.charge.ensures, ap (λ z. length z.lines) c.apply.ensures, c.requires.room);
-      sound = and_from _ _
-          (lt-ltb l.member member_places (omega (arith, ap (λ z. z.member) e, (sound_parts k (at t.orders k) (t.ordered.2 k c.requires.there)).member)))
-          (lt-ltb 0 l.quantity (omega (arith, ap (λ z. z.quantity) e, c.requires.some)));
-    }
-
 pub returns : goal.returns
 returns c =
     let t = c.args.self.now in

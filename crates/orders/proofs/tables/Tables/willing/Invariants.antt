@@ -7,5 +7,5 @@ use Rattle.orders.proofs.tables.Tables.willing.Given as goal
 
 abbrev pub invariant-loop-order : goal.invariant-loop-order
 invariant-loop-order l =
-    (l.sum ≡ total l.order-index (λ k. willing_at (buys l.side) l.tick.value (at (bids_of l.placed) k)))
+    (l.sum ≡ total l.order-index (λ k. willing_at (buys l.side) l.tick.value (at (bids_of l.order-items) k)))
     × (l.sum ≤ most_quantity * l.order-index)
