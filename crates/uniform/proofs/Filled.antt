@@ -75,11 +75,11 @@ module _ (bs : List Bid) (t : OnTicks highest_tick bs) where
 
   -- V is open at its margin, and no more than V is open at better limits
   pub margin_facts : (side : Bool) →
-      (ahead side bs (margin_tick side D S V) ≡ ahead_of side D S (margin_tick side D S V)) × RunsOut V side bs (margin_tick side D S V)
+      (ahead side bs (margin_tick side D S) ≡ ahead_of side D S (margin_tick side D S)) × RunsOut V side bs (margin_tick side D S)
   margin_facts true =
       let (p, tick, e) = greatest_at highest_tick (executable D S) in
       let P : ℕ → Bool = λ p. leb V (D p) in
-      let m = margin_tick true D S V in
+      let m = margin_tick true D S in
       let yes : P p ≡ true = le-leb V (D p) (omega arith) in
       let passes = highest_passes (suc highest_tick) P p (omega arith) yes in
       let le : m ≤ highest_tick = highest_tick_le highest_tick P in
@@ -100,7 +100,7 @@ module _ (bs : List Bid) (t : OnTicks highest_tick bs) where
       let yes : P p ≡ true = le-leb V (S p) (omega arith) in
       let le : low ≤ p = lowest_le (suc highest_tick) P p (omega arith) yes in
       let here : min low highest_tick ≡ low = omega arith in
-      let m = margin_tick false D S V in
+      let m = margin_tick false D S in
       let passes : P low ≡ true = lowest_passes (suc highest_tick) P (omega arith) in
       let enough : V ≤ S m = omega (arith, leb-true V (S low) passes, ap S here) in
       let ah : ahead false bs m ≡ before S m = before_supply highest_tick bs m t (omega arith) in
