@@ -1,15 +1,14 @@
 -- The best standing orders: they stand, quotes find them, and where they do not meet nothing crosses.
-use Rattle.std.proofs.Common.{◌≡◌, ℕ, zero, suc, ◌<◌, ◌≤◌, Bool, true, false, cond, not, ltb, leb, List, length, IfSome, Some, None, Option, sym, refl, ap, ◌∙◌, subst, inl, inr, arith, MatchOption}
+use Rattle.std.proofs.Common.{◌≡◌, ℕ, zero, suc, ◌<◌, Bool, true, false, cond, not, leb, List, length, IfSome, Some, None, Option, sym, refl, ap, ◌∙◌, subst, inl, inr, arith, MatchOption}
 use Rattle.std.proofs.lemmas.List.{get_or_past}
-use Rattle.std.proofs.lemmas.Bool.{cases_eq, cases_lt, cases_Bool, cond_both, cond-true, cond-false, and_right, both_ways, le-leb}
-use Rattle.curves.specs.Orders.{on}
+use Rattle.std.proofs.lemmas.Bool.{cases_eq, cases_lt, cases_Bool, cond_both, cond-true, both_ways, le-leb}
 use Rattle.ranking.specs.declared.OrderFields.{OrderFields}
 use Rattle.ranking.specs.Laws.{RankLaw, LimitLaw, better}
 use Rattle.ranking.specs.Orders.{OrderRank, OrderRankLaw, MadeFrom, order_rank}
 use Rattle.ranking.specs.Best.{leads, joined, best_of, place_of, Distinct, Found}
 use Rattle.ranking.proofs.Bests.{best_found}
 use Rattle.orders.specs.declared.order.Order.{Order}
-use Rattle.orders.specs.Orders.{at, standing, no_order, bid_of}
+use Rattle.orders.specs.Orders.{at, no_order}
 use Rattle.orders.specs.Kept.{Sound}
 use Rattle.orders.proofs.Keeps.{sound_parts}
 use Rattle.steps.specs.Pairing.{Pairs, fields_of, stands, standing_on, best_place, meeting, best_pair, Uncrossed}
@@ -26,7 +25,8 @@ pub some≢none : {X : Type 0} (x : X) → ◌≡◌ {A = Option X} (Some x) Non
 some≢none x e = let z : ◌≡◌ {A = ℕ} 0 1 = cc in omega arith
 
 none_stands : (side : Bool) → stands side no_order ≡ false
-none_stands side = and_right (on side (bid_of no_order)) (ltb 0 (standing no_order)) refl
+none_stands true = refl
+none_stands false = refl
 
 pub stands_in : (side : Bool) (os : List Order) (k : ℕ) → stands side (at os k) ≡ true → k < length os
 stands_in side os k y =
@@ -51,12 +51,7 @@ module _ {X : Type 0} (ahead : X → X → Bool) (thing : ℕ → Option X) wher
   best_held (suc n) = joined_held n (thing n) (best_of ahead n thing) refl (best_held n)
 
 on_stands : (side : Bool) (os : List Order) (k : ℕ) (x : OrderFields) → standing_on side os k ≡ Some x → stands side (at os k) ≡ true
-on_stands side os k x e =
-    elim (cases_Bool (stands side (at os k))) [
-      | inl y ↦ y
-      | inr n ↦
-          absurd (some≢none x (sym e ∙ cond-false (stands side (at os k)) (Some (fields_of (at os k))) None n))
-    ]
+on_stands side os k x e = grind arith
 
 held_stands : (side : Bool) (os : List Order) (best : Option (ℕ × OrderFields)) → Held (standing_on side os) best →
     IfSome (place_of best) (λ k. stands side (at os k) ≡ true)
@@ -68,7 +63,7 @@ pub best_stands : (rank : OrderRank) (side : Bool) (os : List Order) → IfSome 
 best_stands rank side os =
     held_stands side os (best_of rank (length os) (standing_on side os)) (best_held rank (standing_on side os) (length os))
 
-pub best_in : (rank : OrderRank) (side : Bool) (os : List Order) (k : ℕ) → best_on rank side os ≡ Some k → k < length os
+best_in : (rank : OrderRank) (side : Bool) (os : List Order) (k : ℕ) → best_on rank side os ≡ Some k → k < length os
 best_in rank side os k e =
     stands_in side os k (subst (λ o. IfSome o (λ j. stands side (at os j) ≡ true)) e (best_stands rank side os))
 
@@ -113,9 +108,9 @@ module _ {X : Type 0} (ahead : X → X → Bool) (made : OrderFields → X) wher
       best_on (order_rank ahead made) side os ≡ known
   best_found_by side os found known e is = sym (best_by_quotes side os) ∙ sym e ∙ is
 
-  pub no_quote_past : (side : Bool) (os : List Order) (k : ℕ) → length os ≤ k → None ≡ quote_on made side os k
-  no_quote_past side os k l =
-      sym (cond-false (stands side (at os k)) (Some (made (fields_of (at os k)))) None (ap (stands side) (get_or_past os k no_order l) ∙ none_stands side))
+  -- a place that is found is within the table
+  pub found_in : (side : Bool) (os : List Order) (found : Option ℕ) (k : ℕ) → found ≡ place_of (best_of ahead (length os) (quote_on made side os)) → found ≡ Some k → k < length os
+  found_in side os found k e is = best_in (order_rank ahead made) side os k (best_found_by side os found (Some k) e is)
 
 -- the law of a ranking of quotes, as it comes to orders
 pub order_law : {X : Type 0} (mark limit left : X → ℕ) (ahead : X → X → Bool) (made : OrderFields → X) (side buys : Bool) →
@@ -135,10 +130,7 @@ abbrev number_of : OrderFields → ℕ
 number_of o = o.number
 
 some_fields : (side : Bool) (os : List Order) (k : ℕ) (x : OrderFields) → standing_on side os k ≡ Some x → fields_of (at os k) ≡ x
-some_fields side os k x e =
-    let y = on_stands side os k x e in
-    let z : Some (fields_of (at os k)) ≡ Some x = sym (cond-true (stands side (at os k)) (Some (fields_of (at os k))) None y) ∙ e in
-    cc
+some_fields side os k x e = grind arith
 
 distinct : (side : Bool) (os : List Order) → Numbered os → Distinct number_of (length os) (standing_on side os)
 distinct side os nb j k x y lj lk ej ek same =
