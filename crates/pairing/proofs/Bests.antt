@@ -1,7 +1,7 @@
 -- The best standing orders: they stand, quotes find them, and where they do not meet nothing crosses.
-use Rattle.std.proofs.Common.{◌≡◌, ℕ, zero, suc, ◌<◌, Bool, true, false, cond, not, leb, List, length, IfSome, Some, None, Option, sym, refl, ap, ◌∙◌, subst, inl, inr, arith, MatchOption}
+use Rattle.std.proofs.Common.{◌≡◌, ℕ, zero, suc, ◌<◌, Bool, true, false, cond, not, List, length, IfSome, Some, None, Option, sym, refl, ap, ◌∙◌, subst, inl, inr, arith, MatchOption}
 use Rattle.std.proofs.lemmas.List.{get_or_past}
-use Rattle.std.proofs.lemmas.Bool.{cases_eq, cases_lt, cases_Bool, cond_both, cond-true, both_ways, le-leb}
+use Rattle.std.proofs.lemmas.Bool.{cases_eq, cases_Bool, cond_both, cond-true, both_ways}
 use Rattle.ranking.specs.declared.OrderFields.{OrderFields}
 use Rattle.ranking.specs.Laws.{RankLaw, LimitLaw, better}
 use Rattle.ranking.specs.Orders.{OrderRank, OrderRankLaw, MadeFrom, order_rank}
@@ -29,11 +29,7 @@ none_stands true = refl
 none_stands false = refl
 
 pub stands_in : (side : Bool) (os : List Order) (k : ℕ) → stands side (at os k) ≡ true → k < length os
-stands_in side os k y =
-    elim (cases_lt k (length os)) [
-      | inl l ↦ l
-      | inr g ↦ absurd (both_ways (stands side (at os k)) (ap (stands side) (get_or_past os k no_order g) ∙ none_stands side) y)
-    ]
+stands_in side os k y = let none = none_stands side in grind (arith, get_or_past)
 
 -- ---- the place of a best order
 
@@ -64,8 +60,7 @@ best_stands rank side os =
     held_stands side os (best_of rank (length os) (standing_on side os)) (best_held rank (standing_on side os) (length os))
 
 best_in : (rank : OrderRank) (side : Bool) (os : List Order) (k : ℕ) → best_on rank side os ≡ Some k → k < length os
-best_in rank side os k e =
-    stands_in side os k (subst (λ o. IfSome o (λ j. stands side (at os j) ≡ true)) e (best_stands rank side os))
+best_in rank side os k e = let here = best_stands rank side os in stands_in side os k (grind arith)
 
 -- ---- by quotes
 
@@ -144,11 +139,7 @@ Top side os best =
 
 module _ (side : Bool) (ahead : OrderRank) (law : OrderRankLaw side ahead) (os : List Order) (nb : Numbered os) where
   found_top : (best : Option ℕ) → Found ahead (length os) (standing_on side os) best → Top side os best
-  found_top None f = λ k l. elim (cases_Bool (stands side (at os k))) [
-    | inl y ↦
-        absurd (some≢none (fields_of (at os k)) (sym (cond-true (stands side (at os k)) (Some (fields_of (at os k))) None y) ∙ f k l))
-    | inr n ↦ n
-  ]
+  found_top None f = λ k l. let none = f k l in grind arith
   found_top (Some b) (x, (lb, eb, ahead-all)) = λ k y. elim (cases_Bool (better side (at os k).limit (at os b).limit)) [
     | inr n ↦ n
     | inl t ↦
@@ -173,14 +164,9 @@ module _ (side : Bool) (ahead : OrderRank) (law : OrderRankLaw side ahead) (os :
   best_top = found_top _ (best_found number_of ahead law.ranks (standing_on side os) (length os) _ refl (distinct side os nb))
 
 meets_none : (os : List Order) (b s : Option ℕ) → Top true os b → Top false os s → meeting os b s ≡ None → Uncrossed os
-meets_none os None s h g e j k sj sk = absurd (both_ways (stands true (at os j)) (h j (stands_in true os j sj)) sj)
-meets_none os (Some b) None h g e j k sj sk = absurd (both_ways (stands false (at os k)) (g k (stands_in false os k sk)) sk)
-meets_none os (Some b) (Some s) h g e j k sj sk =
-    elim (cases_lt (at os b).limit (at os s).limit) [
-      | inl l ↦ let x = h j sj in let y = g k sk in grind arith
-      | inr m ↦
-          absurd (some≢none (b, s) (sym (cond-true (leb (at os s).limit (at os b).limit) (Some (b, s)) None (le-leb (at os s).limit (at os b).limit m)) ∙ e))
-    ]
+meets_none os None s h g e j k sj sk = let none = h j (stands_in true os j sj) in grind arith
+meets_none os (Some b) None h g e j k sj sk = let none = g k (stands_in false os k sk) in grind arith
+meets_none os (Some b) (Some s) h g e j k sj sk = let buy = h j sj in let sell = g k sk in grind arith
 
 -- where no best buy meets the best sell, every standing buy's limit is below every standing sell's
 pub uncrossed : (rules : Pairs) → OrderRankLaw true rules.buys → OrderRankLaw false rules.sells → (os : List Order) → Numbered os →
