@@ -1,7 +1,7 @@
 -- The best standing orders: they stand, quotes find them, and where they do not meet nothing crosses.
-use Rattle.std.proofs.Common.{◌≡◌, ℕ, zero, suc, ◌<◌, Bool, true, false, cond, not, List, length, IfSome, Some, None, Option, sym, refl, ap, ◌∙◌, subst, inl, inr, arith, MatchOption}
+use Rattle.std.proofs.Common.{◌≡◌, ℕ, zero, suc, ◌<◌, Bool, true, false, cond, List, length, IfSome, Some, None, Option, sym, refl, ap, ◌∙◌, subst, inl, inr, arith, MatchOption}
 use Rattle.std.proofs.lemmas.List.{get_or_past}
-use Rattle.std.proofs.lemmas.Bool.{cases_eq, cases_Bool, cond_both, cond-true, both_ways}
+use Rattle.std.proofs.lemmas.Bool.{cases_eq, cases_Bool}
 use Rattle.ranking.specs.declared.OrderFields.{OrderFields}
 use Rattle.ranking.specs.Laws.{RankLaw, LimitLaw, better}
 use Rattle.ranking.specs.Orders.{OrderRank, OrderRankLaw, MadeFrom, order_rank}
@@ -21,9 +21,6 @@ Numbered os = (k : ℕ) → k < length os → (at os k).number ≡ suc k
 pub sound_numbered : (os : List Order) → Sound os (length os) → Numbered os
 sound_numbered os h k l = (sound_parts k (at os k) (h k l)).number
 
-pub some≢none : {X : Type 0} (x : X) → ◌≡◌ {A = Option X} (Some x) None → ⊥
-some≢none x e = let z : ◌≡◌ {A = ℕ} 0 1 = cc in omega arith
-
 none_stands : (side : Bool) → stands side no_order ≡ false
 none_stands true = refl
 none_stands false = refl
@@ -40,7 +37,7 @@ Held thing best = IfSome best (λ b. thing b.0 ≡ Some b.1)
 module _ {X : Type 0} (ahead : X → X → Bool) (thing : ℕ → Option X) where
   joined_held : (n : ℕ) (here : Option X) (best : Option (ℕ × X)) → thing n ≡ here → Held thing best → Held thing (joined ahead n here best)
   joined_held n None best e h = h
-  joined_held n (Some x) best e h = cond_both (leads ahead x best) (Some (n, x)) best (Held thing) (λ _. e) (λ _. h)
+  joined_held n (Some x) best e h = grind arith
 
   best_held : (n : ℕ) → Held thing (best_of ahead n thing)
   best_held zero = tt
@@ -77,16 +74,10 @@ module _ {X : Type 0} (ahead : X → X → Bool) (made : OrderFields → X) wher
   quoted_leads x None = refl
   quoted_leads x (Some b) = refl
 
-  quoted_cond : (b : Bool) (x y : Option (ℕ × OrderFields)) → cond b (quoted made x) (quoted made y) ≡ quoted made (cond b x y)
-  quoted_cond true x y = refl
-  quoted_cond false x y = refl
-
   quoted_joined : (n : ℕ) (stand : Bool) (x : OrderFields) (best : Option (ℕ × OrderFields)) →
       joined ahead n (cond stand (Some (made x)) None) (quoted made best) ≡ quoted made (joined (order_rank ahead made) n (cond stand (Some x) None) best)
   quoted_joined n false x best = refl
-  quoted_joined n true x best =
-      ap (λ t. cond t (Some (n, made x)) (quoted made best)) (quoted_leads x best)
-      ∙ quoted_cond (leads (order_rank ahead made) x best) (Some (n, x)) best
+  quoted_joined n true x best = grind (arith, quoted_leads)
 
   quoted_best : (side : Bool) (os : List Order) (n : ℕ) → best_of ahead n (quote_on made side os) ≡ quoted made (best_of (order_rank ahead made) n (standing_on side os))
   quoted_best side os zero = refl
@@ -143,16 +134,16 @@ module _ (side : Bool) (ahead : OrderRank) (law : OrderRankLaw side ahead) (os :
   found_top (Some b) (x, (lb, eb, ahead-all)) = λ k y. elim (cases_Bool (better side (at os k).limit (at os b).limit)) [
     | inr n ↦ n
     | inl t ↦
-        let lk = stands_in side os k y in
         let same : fields_of (at os b) ≡ x = some_fields side os b x eb in
-        let here : standing_on side os k ≡ Some (fields_of (at os k)) = cond-true (stands side (at os k)) (Some (fields_of (at os k))) None y in
         let up : ahead (fields_of (at os k)) (fields_of (at os b)) ≡ true = law.limits (fields_of (at os k)) (fields_of (at os b)) t in
         elim (cases_eq k b) [
           | inl e ↦ absurd (unbettered side (at os b).limit (subst (λ i. better side (at os i).limit (at os b).limit ≡ true) e t))
           | inr ne ↦
+              let lk = stands_in side os k y in
               let apart : (at os b).number ≡ (at os k).number → ⊥ = λ m. ne (omega (arith, nb b lb, nb k lk)) in
-              let down : ahead (fields_of (at os b)) (fields_of (at os k)) ≡ true = subst (λ z. ahead z (fields_of (at os k)) ≡ true) (sym same) (ahead-all k (fields_of (at os k)) lk ne here) in
-              absurd (both_ways (ahead (fields_of (at os b)) (fields_of (at os k))) (law.ranks.one (fields_of (at os b)) (fields_of (at os k)) apart ∙ ap not up) down)
+              let one = law.ranks.one (fields_of (at os b)) (fields_of (at os k)) apart in
+              let down = ahead-all k (fields_of (at os k)) lk ne (grind arith) in
+              grind arith
         ]
   ]
     where

@@ -2,7 +2,7 @@
 use Rattle.std.proofs.Common.{◌≡◌, ℕ, ◌+◌, ◌-◌, ◌<◌, ◌≤◌, Bool, true, false, cond, not, ltb, List, length, set, IfSome, Some, None, sum_by, count_by, Option, sym, ap, ◌∙◌, subst, inl, inr, arith}
 use Rattle.std.proofs.lemmas.List.{get_or-set_same, get_or-set_other, length-set}
 use Rattle.std.proofs.lemmas.List.Sums.{sum_by-set}
-use Rattle.std.proofs.lemmas.Bool.{cases_lt, and_parts, both_ways, not-true, ltb-true}
+use Rattle.std.proofs.lemmas.Bool.{cases_lt}
 use Rattle.orders.specs.declared.order.Life.{Life}
 use Rattle.orders.specs.declared.order.Life.TheVariants.{Standing, Filled, Withdrawn, Killed}
 use Rattle.orders.specs.declared.order.Event.TheVariants.{Fill}
@@ -109,13 +109,13 @@ module _ (rules : Pairs) (os : List Order) (i : ℕ) (p : ℕ × ℕ) (nb : Numb
   buy_parts = let y = h.buys in grind arith
 
   sell_parts : (not (buys (at os s).side) ≡ true) × (ltb 0 (standing (at os s)) ≡ true)
-  sell_parts = and_parts (not (buys (at os s).side)) (ltb 0 (standing (at os s))) h.sells
+  sell_parts = let y = h.sells in grind arith
 
   pub is_buy : buys (at os b).side ≡ true
   is_buy = buy_parts.0
 
   pub is_sell : buys (at os s).side ≡ false
-  is_sell = not-true (buys (at os s).side) sell_parts.0
+  is_sell = let y = sell_parts.0 in grind arith
 
   pub buy_in : b < length os
   buy_in = stands_in true os b h.buys
@@ -124,16 +124,16 @@ module _ (rules : Pairs) (os : List Order) (i : ℕ) (p : ℕ × ℕ) (nb : Numb
   sell_in = stands_in false os s h.sells
 
   pub buy_some : 0 < standing (at os b)
-  buy_some = ltb-true 0 (standing (at os b)) buy_parts.1
+  buy_some = let y = buy_parts.1 in grind arith
 
   pub sell_some : 0 < standing (at os s)
-  sell_some = ltb-true 0 (standing (at os s)) sell_parts.1
+  sell_some = let y = sell_parts.1 in grind arith
 
   pub some_quantity : 0 < q
   some_quantity = omega (arith, buy_some, sell_some)
 
   pub apart : s ≡ b → ⊥
-  apart e = both_ways (buys (at os b).side) (subst (λ k. buys (at os k).side ≡ false) e is_sell) is_buy
+  apart e = let b = is_buy in let s = is_sell in grind arith
 
   pub place_b : place_of bl ≡ b
   place_b = omega (arith, nb b buy_in)
@@ -161,9 +161,6 @@ module _ (rules : Pairs) (os : List Order) (i : ℕ) (p : ℕ × ℕ) (nb : Numb
 
   sell_in_after : s < length after_buy
   sell_in_after = omega (arith, length-set os b (filled_by q (at os b)), sell_in)
-
-  pub long_after : length (after_pair rules os i p) ≡ length os
-  long_after = ap length both_fills ∙ length-set after_buy s (filled_by q (at after_buy s)) ∙ length-set os b (filled_by q (at os b))
 
   pub numbered_after : Numbered (after_pair rules os i p)
   numbered_after = subst Numbered (sym both_fills) (numbered_filled after_buy s q sell_in_after (numbered_filled os b q buy_in nb))
