@@ -1,10 +1,10 @@
 -- What all orders get by the margins of V is the award of the sharing rule.
-use Rattle.std.proofs.Common.{◌≡◌, ℕ, ◌-◌, ◌<◌, ◌≤◌, Bool, true, cond, eqb, List, [], length, get_or, take, drop, count_by, sym, ap, ◌∙◌, add-zero, subst, inl, inr, arith}
+use Rattle.std.proofs.Common.{◌≡◌, ℕ, ◌-◌, ◌<◌, ◌≤◌, Bool, true, cond, eqb, List, [], length, get_or, take, drop, count_by, sym, ap, ◌∙◌, add-zero, subst, arith}
 use Rattle.std.specs.List.{AllByRecursion}
 use Rattle.std.proofs.lemmas.List.{get_or-drop, length-map, take-map}
 use Rattle.std.proofs.ByRecursion.{All-from_get_or, all_kept_by, All-map, All-get_or}
 use Rattle.std.proofs.lemmas.List.FromFn.{length-map-range_with_len, get_or-map-range_with_len, fill_by_all}
-use Rattle.std.proofs.lemmas.Bool.{cases_Bool, cond-true, cond-false}
+use Rattle.std.proofs.lemmas.Bool.{cond-true}
 use Rattle.curves.specs.Orders.{Bid, no_bid, better, demand, supply, OnTicks}
 use Rattle.curves.specs.Orders.{at as bid}
 use Rattle.curves.specs.Sharing.{SharingMeaning, SharingLaw}
@@ -130,11 +130,7 @@ module _ (share : SharingMeaning) (law : SharingLaw share) (os : List Order) (so
 
   grant_there : (k : ℕ) → k < length os → get_or (spread os qs) k 0 ≡ grant_of (margins_at ms os k) (at os k)
   grant_there k h =
-      getD_spread os qs k h
-      ∙ elim (cases_Bool (stands (at os k))) [
-        | inl y ↦ ap (λ z. cond (stands (at os k)) z 0) (sym (granted_there k h y))
-        | inr n ↦ cond-false (stands (at os k)) _ 0 n ∙ sym (cond-false (stands (at os k)) _ 0 n)
-      ]
+      let given = getD_spread os qs k h in let here = granted_there k h in grind arith
 
   pub grants_are : grants ms os ≡ spread os qs
   grants_are = sym (fill_by_all (λ k. grant_of (margins_at ms os k) (at os k)) (spread os qs) (length os) 0 (length_spread os qs) grant_there)
@@ -143,10 +139,8 @@ module _ (share : SharingMeaning) (law : SharingLaw share) (os : List Order) (so
   grants_within k h =
       let e : get_or (grants ms os) k 0 ≡ cond (stands (at os k)) (get_or qs (count_by stands (take k os)) 0) 0 =
       ap (λ z. get_or z k 0) grants_are ∙ getD_spread os qs k h in
-      elim (cases_Bool (stands (at os k))) [
-        | inl y ↦ omega (arith, e, cond-true (stands (at os k)) (get_or qs (count_by stands (take k os)) 0) 0 y, award_within k h y)
-        | inr n ↦ omega (arith, e, cond-false (stands (at os k)) (get_or qs (count_by stands (take k os)) 0) 0 n)
-      ]
+      let within = award_within k h in
+      grind arith
 
   pub round_ready : (s : Session) → s.orders ≡ os → s.lines ≡ [] → length os ≤ most_orders → Ready s (grants ms os)
   round_ready s e fresh few = record {

@@ -1,14 +1,13 @@
 -- The groups of the standing orders, and what a margin has left of its shares.
-use Rattle.std.proofs.Common.{◌≡◌, ℕ, ◌+◌, Bool, true, false, cond, ◌&&◌, eqb, List, [], ◌∷◌, map, length, drop, fold, count_by, filter, sym, refl, ap, ◌∙◌, inl, inr, arith}
+use Rattle.std.proofs.Common.{◌≡◌, ℕ, ◌+◌, Bool, true, false, cond, ◌&&◌, eqb, List, [], ◌∷◌, length, drop, fold, count_by, sym, refl, ap, ◌∙◌, arith}
 use Rattle.std.proofs.lemmas.List.{drop-drop}
 use Rattle.std.proofs.lemmas.List.Sums.{sum_by-cons}
-use Rattle.std.proofs.lemmas.Bool.{cases_Bool, cond-true, cond-false}
 use Rattle.curves.specs.Orders.{Bid, no_bid, on}
 use Rattle.curves.specs.Filling.{grouped, group}
 use Rattle.curves.proofs.Groups.{length_kept}
 use Rattle.orders.specs.declared.order.Order.{Order}
-use Rattle.orders.specs.Orders.{is_standing, standing, bid_of, bids_of, no_order}
-use Rattle.steps.specs.Uniform.{standing_of, standing_bids}
+use Rattle.orders.specs.Orders.{is_standing, bid_of, no_order}
+use Rattle.steps.specs.Uniform.{standing_bids}
 use Rattle.uniform.specs.declared.margin.Margin.{Margin}
 use Rattle.uniform.specs.declared.margin.Margins.{Margins}
 use Rattle.uniform.specs.Margins.{marginal, marginal_group, passed, margin_of, turned}
@@ -17,26 +16,7 @@ use Rattle.uniform.specs.Margins.{marginal, marginal_group, passed, margin_of, t
 pub group_standing : (side : Bool) (m : ℕ) (os : List Order) → group side (standing_bids os) m ≡ marginal_group side m os
 group_standing side m [] = refl
 group_standing side m (o ∷ os) =
-    let ih = group_standing side m os in
-    elim (cases_Bool (is_standing o.life)) [
-      | inl y ↦
-          let kept : standing_bids (o ∷ os) ≡ bid_of o ∷ standing_bids os = ap bids_of (cond-true (is_standing o.life) (o ∷ standing_of os) (standing_of os) y) in
-          let same : marginal side m o ≡ grouped side m (bid_of o) = ap (λ b. b && grouped side m (bid_of o)) y in
-          ap (λ z. group side z m) kept
-          ∙ one (grouped side m (bid_of o)) (cond-true (is_standing o.life) o.left 0 y) ih
-          ∙ sym (ap (λ b. map (λ (o : Order). o.left) (cond b (o ∷ filter (marginal side m) os) (filter (marginal side m) os))) same)
-      | inr n ↦
-          let kept : standing_bids (o ∷ os) ≡ standing_bids os = ap bids_of (cond-false (is_standing o.life) (o ∷ standing_of os) (standing_of os) n) in
-          let same : marginal side m o ≡ false = ap (λ b. b && grouped side m (bid_of o)) n in
-          ap (λ z. group side z m) kept ∙ ih
-          ∙ sym (ap (λ b. map (λ (o : Order). o.left) (cond b (o ∷ filter (marginal side m) os) (filter (marginal side m) os))) same)
-    ]
-  where
-    one : (b : Bool) → standing o ≡ o.left → group side (standing_bids os) m ≡ marginal_group side m os →
-        map (λ (b : Bid). b.left) (cond b (bid_of o ∷ filter (grouped side m) (standing_bids os)) (filter (grouped side m) (standing_bids os)))
-        ≡ map (λ (o : Order). o.left) (cond b (o ∷ filter (marginal side m) os) (filter (marginal side m) os))
-    one true e ih = ap (λ z. z ∷ group side (standing_bids os) m) e ∙ ap (λ z. o.left ∷ z) ih
-    one false e ih = ih
+    let rest = group_standing side m os in grind arith
 
 pub count_standing : (side : Bool) (m : ℕ) (os : List Order) → count_by (grouped side m) (standing_bids os) ≡ count_by (marginal side m) os
 count_standing side m os =
@@ -51,13 +31,7 @@ abbrev pub advanced : ℕ → Margin → Margin
 advanced n m = record { limit = m.limit; shares = drop n m.shares }
 
 one_turn : (st b : Bool) (l : ℕ) (m : Margin) → cond (st && b) (passed l m) m ≡ advanced (cond (st && (b && eqb l m.limit)) 1 0) m
-one_turn false b l m = refl
-one_turn true false l m = refl
-one_turn true true l m = ap (λ (z : List ℕ). record { limit = m.limit; shares = z }) (same (eqb l m.limit) m.shares)
-  where
-    same : (b : Bool) (xs : List ℕ) → cond b (drop 1 xs) xs ≡ drop (cond b 1 0) xs
-    same true xs = refl
-    same false xs = refl
+one_turn st b l m = grind arith
 
 turn : (side : Bool) (ms : Margins) (o : Order) → margin_of side (turned ms o) ≡ advanced (cond (marginal side (margin_of side ms).limit o) 1 0) (margin_of side ms)
 turn true ms o = one_turn (is_standing o.life) (on true (bid_of o)) o.limit ms.buys
