@@ -1,15 +1,14 @@
 -- The best standing orders: they stand, quotes find them, and where they do not meet nothing crosses.
-use Rattle.std.proofs.Common.{◌≡◌, ℕ, zero, suc, ◌<◌, ◌≤◌, Bool, true, false, cond, not, ltb, leb, List, length, IfSome, Some, None, Option, sym, refl, ap, ◌∙◌, subst, inl, inr, arith, MatchOption}
+use Rattle.std.proofs.Common.{◌≡◌, ℕ, zero, suc, ◌<◌, Bool, true, false, cond, List, length, IfSome, Some, None, Option, sym, refl, ap, ◌∙◌, subst, inl, inr, arith, MatchOption}
 use Rattle.std.proofs.lemmas.List.{get_or_past}
-use Rattle.std.proofs.lemmas.Bool.{cases_eq, cases_lt, cases_Bool, cond_both, cond-true, cond-false, and_right, both_ways, le-leb}
-use Rattle.curves.specs.Orders.{on}
+use Rattle.std.proofs.lemmas.Bool.{cases_eq, cases_Bool}
 use Rattle.ranking.specs.declared.OrderFields.{OrderFields}
 use Rattle.ranking.specs.Laws.{RankLaw, LimitLaw, better}
 use Rattle.ranking.specs.Orders.{OrderRank, OrderRankLaw, MadeFrom, order_rank}
 use Rattle.ranking.specs.Best.{leads, joined, best_of, place_of, Distinct, Found}
 use Rattle.ranking.proofs.Bests.{best_found}
 use Rattle.orders.specs.declared.order.Order.{Order}
-use Rattle.orders.specs.Orders.{at, standing, no_order, bid_of}
+use Rattle.orders.specs.Orders.{at, no_order}
 use Rattle.orders.specs.Kept.{Sound}
 use Rattle.orders.proofs.Keeps.{sound_parts}
 use Rattle.steps.specs.Pairing.{Pairs, fields_of, stands, standing_on, best_place, meeting, best_pair, Uncrossed}
@@ -22,18 +21,12 @@ Numbered os = (k : ℕ) → k < length os → (at os k).number ≡ suc k
 pub sound_numbered : (os : List Order) → Sound os (length os) → Numbered os
 sound_numbered os h k l = (sound_parts k (at os k) (h k l)).number
 
-pub some≢none : {X : Type 0} (x : X) → ◌≡◌ {A = Option X} (Some x) None → ⊥
-some≢none x e = let z : ◌≡◌ {A = ℕ} 0 1 = cc in omega arith
-
 none_stands : (side : Bool) → stands side no_order ≡ false
-none_stands side = and_right (on side (bid_of no_order)) (ltb 0 (standing no_order)) refl
+none_stands true = refl
+none_stands false = refl
 
 pub stands_in : (side : Bool) (os : List Order) (k : ℕ) → stands side (at os k) ≡ true → k < length os
-stands_in side os k y =
-    elim (cases_lt k (length os)) [
-      | inl l ↦ l
-      | inr g ↦ absurd (both_ways (stands side (at os k)) (ap (stands side) (get_or_past os k no_order g) ∙ none_stands side) y)
-    ]
+stands_in side os k y = let none = none_stands side in grind (arith, get_or_past)
 
 -- ---- the place of a best order
 
@@ -44,19 +37,14 @@ Held thing best = IfSome best (λ b. thing b.0 ≡ Some b.1)
 module _ {X : Type 0} (ahead : X → X → Bool) (thing : ℕ → Option X) where
   joined_held : (n : ℕ) (here : Option X) (best : Option (ℕ × X)) → thing n ≡ here → Held thing best → Held thing (joined ahead n here best)
   joined_held n None best e h = h
-  joined_held n (Some x) best e h = cond_both (leads ahead x best) (Some (n, x)) best (Held thing) (λ _. e) (λ _. h)
+  joined_held n (Some x) best e h = grind arith
 
   best_held : (n : ℕ) → Held thing (best_of ahead n thing)
   best_held zero = tt
   best_held (suc n) = joined_held n (thing n) (best_of ahead n thing) refl (best_held n)
 
 on_stands : (side : Bool) (os : List Order) (k : ℕ) (x : OrderFields) → standing_on side os k ≡ Some x → stands side (at os k) ≡ true
-on_stands side os k x e =
-    elim (cases_Bool (stands side (at os k))) [
-      | inl y ↦ y
-      | inr n ↦
-          absurd (some≢none x (sym e ∙ cond-false (stands side (at os k)) (Some (fields_of (at os k))) None n))
-    ]
+on_stands side os k x e = grind arith
 
 held_stands : (side : Bool) (os : List Order) (best : Option (ℕ × OrderFields)) → Held (standing_on side os) best →
     IfSome (place_of best) (λ k. stands side (at os k) ≡ true)
@@ -68,9 +56,8 @@ pub best_stands : (rank : OrderRank) (side : Bool) (os : List Order) → IfSome 
 best_stands rank side os =
     held_stands side os (best_of rank (length os) (standing_on side os)) (best_held rank (standing_on side os) (length os))
 
-pub best_in : (rank : OrderRank) (side : Bool) (os : List Order) (k : ℕ) → best_on rank side os ≡ Some k → k < length os
-best_in rank side os k e =
-    stands_in side os k (subst (λ o. IfSome o (λ j. stands side (at os j) ≡ true)) e (best_stands rank side os))
+best_in : (rank : OrderRank) (side : Bool) (os : List Order) (k : ℕ) → best_on rank side os ≡ Some k → k < length os
+best_in rank side os k e = let here = best_stands rank side os in stands_in side os k (grind arith)
 
 -- ---- by quotes
 
@@ -87,16 +74,10 @@ module _ {X : Type 0} (ahead : X → X → Bool) (made : OrderFields → X) wher
   quoted_leads x None = refl
   quoted_leads x (Some b) = refl
 
-  quoted_cond : (b : Bool) (x y : Option (ℕ × OrderFields)) → cond b (quoted made x) (quoted made y) ≡ quoted made (cond b x y)
-  quoted_cond true x y = refl
-  quoted_cond false x y = refl
-
   quoted_joined : (n : ℕ) (stand : Bool) (x : OrderFields) (best : Option (ℕ × OrderFields)) →
       joined ahead n (cond stand (Some (made x)) None) (quoted made best) ≡ quoted made (joined (order_rank ahead made) n (cond stand (Some x) None) best)
   quoted_joined n false x best = refl
-  quoted_joined n true x best =
-      ap (λ t. cond t (Some (n, made x)) (quoted made best)) (quoted_leads x best)
-      ∙ quoted_cond (leads (order_rank ahead made) x best) (Some (n, x)) best
+  quoted_joined n true x best = grind (arith, quoted_leads)
 
   quoted_best : (side : Bool) (os : List Order) (n : ℕ) → best_of ahead n (quote_on made side os) ≡ quoted made (best_of (order_rank ahead made) n (standing_on side os))
   quoted_best side os zero = refl
@@ -113,9 +94,9 @@ module _ {X : Type 0} (ahead : X → X → Bool) (made : OrderFields → X) wher
       best_on (order_rank ahead made) side os ≡ known
   best_found_by side os found known e is = sym (best_by_quotes side os) ∙ sym e ∙ is
 
-  pub no_quote_past : (side : Bool) (os : List Order) (k : ℕ) → length os ≤ k → None ≡ quote_on made side os k
-  no_quote_past side os k l =
-      sym (cond-false (stands side (at os k)) (Some (made (fields_of (at os k)))) None (ap (stands side) (get_or_past os k no_order l) ∙ none_stands side))
+  -- a place that is found is within the table
+  pub found_in : (side : Bool) (os : List Order) (found : Option ℕ) (k : ℕ) → found ≡ place_of (best_of ahead (length os) (quote_on made side os)) → found ≡ Some k → k < length os
+  found_in side os found k e is = best_in (order_rank ahead made) side os k (best_found_by side os found (Some k) e is)
 
 -- the law of a ranking of quotes, as it comes to orders
 pub order_law : {X : Type 0} (mark limit left : X → ℕ) (ahead : X → X → Bool) (made : OrderFields → X) (side buys : Bool) →
@@ -135,10 +116,7 @@ abbrev number_of : OrderFields → ℕ
 number_of o = o.number
 
 some_fields : (side : Bool) (os : List Order) (k : ℕ) (x : OrderFields) → standing_on side os k ≡ Some x → fields_of (at os k) ≡ x
-some_fields side os k x e =
-    let y = on_stands side os k x e in
-    let z : Some (fields_of (at os k)) ≡ Some x = sym (cond-true (stands side (at os k)) (Some (fields_of (at os k))) None y) ∙ e in
-    cc
+some_fields side os k x e = grind arith
 
 distinct : (side : Bool) (os : List Order) → Numbered os → Distinct number_of (length os) (standing_on side os)
 distinct side os nb j k x y lj lk ej ek same =
@@ -152,24 +130,20 @@ Top side os best =
 
 module _ (side : Bool) (ahead : OrderRank) (law : OrderRankLaw side ahead) (os : List Order) (nb : Numbered os) where
   found_top : (best : Option ℕ) → Found ahead (length os) (standing_on side os) best → Top side os best
-  found_top None f = λ k l. elim (cases_Bool (stands side (at os k))) [
-    | inl y ↦
-        absurd (some≢none (fields_of (at os k)) (sym (cond-true (stands side (at os k)) (Some (fields_of (at os k))) None y) ∙ f k l))
-    | inr n ↦ n
-  ]
+  found_top None f = λ k l. let none = f k l in grind arith
   found_top (Some b) (x, (lb, eb, ahead-all)) = λ k y. elim (cases_Bool (better side (at os k).limit (at os b).limit)) [
     | inr n ↦ n
     | inl t ↦
-        let lk = stands_in side os k y in
         let same : fields_of (at os b) ≡ x = some_fields side os b x eb in
-        let here : standing_on side os k ≡ Some (fields_of (at os k)) = cond-true (stands side (at os k)) (Some (fields_of (at os k))) None y in
         let up : ahead (fields_of (at os k)) (fields_of (at os b)) ≡ true = law.limits (fields_of (at os k)) (fields_of (at os b)) t in
         elim (cases_eq k b) [
           | inl e ↦ absurd (unbettered side (at os b).limit (subst (λ i. better side (at os i).limit (at os b).limit ≡ true) e t))
           | inr ne ↦
+              let lk = stands_in side os k y in
               let apart : (at os b).number ≡ (at os k).number → ⊥ = λ m. ne (omega (arith, nb b lb, nb k lk)) in
-              let down : ahead (fields_of (at os b)) (fields_of (at os k)) ≡ true = subst (λ z. ahead z (fields_of (at os k)) ≡ true) (sym same) (ahead-all k (fields_of (at os k)) lk ne here) in
-              absurd (both_ways (ahead (fields_of (at os b)) (fields_of (at os k))) (law.ranks.one (fields_of (at os b)) (fields_of (at os k)) apart ∙ ap not up) down)
+              let one = law.ranks.one (fields_of (at os b)) (fields_of (at os k)) apart in
+              let down = ahead-all k (fields_of (at os k)) lk ne (grind arith) in
+              grind arith
         ]
   ]
     where
@@ -181,14 +155,9 @@ module _ (side : Bool) (ahead : OrderRank) (law : OrderRankLaw side ahead) (os :
   best_top = found_top _ (best_found number_of ahead law.ranks (standing_on side os) (length os) _ refl (distinct side os nb))
 
 meets_none : (os : List Order) (b s : Option ℕ) → Top true os b → Top false os s → meeting os b s ≡ None → Uncrossed os
-meets_none os None s h g e j k sj sk = absurd (both_ways (stands true (at os j)) (h j (stands_in true os j sj)) sj)
-meets_none os (Some b) None h g e j k sj sk = absurd (both_ways (stands false (at os k)) (g k (stands_in false os k sk)) sk)
-meets_none os (Some b) (Some s) h g e j k sj sk =
-    elim (cases_lt (at os b).limit (at os s).limit) [
-      | inl l ↦ let x = h j sj in let y = g k sk in grind arith
-      | inr m ↦
-          absurd (some≢none (b, s) (sym (cond-true (leb (at os s).limit (at os b).limit) (Some (b, s)) None (le-leb (at os s).limit (at os b).limit m)) ∙ e))
-    ]
+meets_none os None s h g e j k sj sk = let none = h j (stands_in true os j sj) in grind arith
+meets_none os (Some b) None h g e j k sj sk = let none = g k (stands_in false os k sk) in grind arith
+meets_none os (Some b) (Some s) h g e j k sj sk = let buy = h j sj in let sell = g k sk in grind arith
 
 -- where no best buy meets the best sell, every standing buy's limit is below every standing sell's
 pub uncrossed : (rules : Pairs) → OrderRankLaw true rules.buys → OrderRankLaw false rules.sells → (os : List Order) → Numbered os →

@@ -3,7 +3,7 @@ use Rattle.std.proofs.Common.{◌≡◌, ℕ, zero, suc, ◌+◌, ◌*◌, ◌<�
 use Rattle.std.proofs.ByRecursion.{All-from_get_or, sum_by_le}
 use Rattle.std.proofs.lemmas.List.{append_assoc, append-nil, length_push, length-take-le}
 use Rattle.std.proofs.lemmas.List.Sums.{fold_push, sum_by_push, count_by-le-length}
-use Rattle.std.proofs.lemmas.Bool.{cond-true, cond-false, and_from, lt-ltb, le-leb}
+use Rattle.std.proofs.lemmas.Bool.{cond-true}
 use Rattle.ranking.specs.Orders.{OrderRankLaw}
 use Rattle.orders.specs.declared.order.Order.{Order}
 use Rattle.orders.specs.declared.order.Line.{Line}
@@ -164,14 +164,17 @@ module _ (rules : Pairs) where
 
     can_buy : can_trade p.0 q t ≡ true
     can_buy =
-        and_from _ _ (lt-ltb i most_lines (omega (arith, left_room)))
-        (and_from _ _ (lt-ltb 0 q (some_quantity rules os i p f.numbered h)) (le-leb q (standing (at os p.0)) (omega arith)))
+        let room = left_room in
+        let some = some_quantity rules os i p f.numbered h in
+        grind arith
 
     can_sell : can_trade p.1 q bought_of ≡ true
     can_sell =
-        and_from _ _ (lt-ltb (length (t.lines ++ (bl ∷ []))) most_lines (omega (arith, left_room, more)))
-        (and_from _ _ (lt-ltb 0 q (some_quantity rules os i p f.numbered h))
-        (le-leb q (standing (at bought_of.orders p.1)) (omega (arith, ap standing (sell_stays rules os i p f.numbered h)))))
+        let room = left_room in
+        let long = more in
+        let some = some_quantity rules os i p f.numbered h in
+        let stays = ap standing (sell_stays rules os i p f.numbered h) in
+        grind arith
 
     sold_line : line_of (at bought_of.orders p.1) q r (length bought_of.lines) ≡ sl
     sold_line = ap (λ o. line_of o q r (length bought_of.lines)) (sell_stays rules os i p f.numbered h) ∙ ap (line_of (at os p.1) q r) (sym more)
@@ -183,9 +186,9 @@ module _ (rules : Pairs) where
     posted_bought =
         let first = sum_by_push (λ (l : Line). cond (buys l.side) l.quantity 0) t.lines bl in
         let second = sum_by_push (λ (l : Line). cond (buys l.side) l.quantity 0) (t.lines ++ (bl ∷ [])) sl in
-        let buy : cond (buys (at os p.0).side) q 0 ≡ q = cond-true (buys (at os p.0).side) q 0 (is_buy rules os i p f.numbered h) in
-        let sell : cond (buys (at os p.1).side) q 0 ≡ 0 = cond-false (buys (at os p.1).side) q 0 (is_sell rules os i p f.numbered h) in
-        omega arith
+        let buy = is_buy rules os i p f.numbered h in
+        let sell = is_sell rules os i p f.numbered h in
+        grind arith
 
     posted_so_far : SoFar s (posted sl (posted bl t))
     posted_so_far =

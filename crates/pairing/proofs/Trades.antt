@@ -1,8 +1,8 @@
 -- One trade of a pair that meets.
-use Rattle.std.proofs.Common.{◌≡◌, ℕ, suc, ◌+◌, ◌-◌, ◌<◌, ◌≤◌, Bool, true, false, cond, not, ltb, leb, List, length, set, IfSome, Some, None, sum_by, count_by, Option, sym, refl, ap, ◌∙◌, subst, inl, inr, arith}
+use Rattle.std.proofs.Common.{◌≡◌, ℕ, ◌+◌, ◌-◌, ◌<◌, ◌≤◌, Bool, true, false, cond, not, ltb, List, length, set, IfSome, Some, None, sum_by, count_by, Option, sym, ap, ◌∙◌, subst, inl, inr, arith}
 use Rattle.std.proofs.lemmas.List.{get_or-set_same, get_or-set_other, length-set}
 use Rattle.std.proofs.lemmas.List.Sums.{sum_by-set}
-use Rattle.std.proofs.lemmas.Bool.{cases_eq, cases_lt, cond_both, and_parts, both_ways, not-true, leb-true, ltb-true, lt-ltb, le-ltb}
+use Rattle.std.proofs.lemmas.Bool.{cases_lt}
 use Rattle.orders.specs.declared.order.Life.{Life}
 use Rattle.orders.specs.declared.order.Life.TheVariants.{Standing, Filled, Withdrawn, Killed}
 use Rattle.orders.specs.declared.order.Event.TheVariants.{Fill}
@@ -11,13 +11,12 @@ use Rattle.orders.specs.declared.order.Line.{Line}
 use Rattle.orders.specs.Orders.{at, buys, standing, no_order, is_standing, left_after, life_after, filled_by}
 use Rattle.orders.specs.Settlement.{place_of, fill}
 use Rattle.steps.specs.Pairing.{Pairs, stands, best_place, meeting, best_pair, pair_quantity, buy_line, sell_line, after_pair}
-use Rattle.pairing.proofs.Bests.{Numbered, some≢none, stands_in, best_stands}
+use Rattle.pairing.proofs.Bests.{Numbered, stands_in, best_stands}
 
 -- ---- a fill
 
 standing_by_life : (l : Life) (q n : ℕ) → cond (is_standing (life_after l (Fill q) n)) (left_after l (Fill q) n) 0 ≡ cond (is_standing l) n 0 - q
-standing_by_life Standing q n =
-    cond_both (ltb q n) Standing Filled (λ l. cond (is_standing l) (n - q) 0 ≡ n - q) (λ _. refl) (λ e. grind arith)
+standing_by_life Standing q n = grind arith
 standing_by_life Filled q n = omega arith
 standing_by_life Withdrawn q n = omega arith
 standing_by_life Killed q n = omega arith
@@ -46,10 +45,8 @@ module _ (os : List Order) (k q : ℕ) (lt : k < length os) where
 
   numbered_filled : Numbered os → Numbered filled
   numbered_filled nb j l =
-      elim (cases_eq j k) [
-        | inl e ↦ ap (λ i. (at filled i).number) e ∙ ap (λ (o : Order). o.number) (get_or-set_same os k (filled_by q (at os k)) no_order lt) ∙ nb k lt ∙ ap suc (sym e)
-        | inr ne ↦ ap (λ (o : Order). o.number) (get_or-set_other os k j (filled_by q (at os k)) no_order ne) ∙ nb j (omega (arith, length-set os k (filled_by q (at os k))))
-      ]
+      let was = nb j (omega (arith, length-set os k (filled_by q (at os k)))) in
+      grind (arith, get_or-set_same, get_or-set_other)
 
   -- a fill adds no standing order
   standings_most : standings filled ≤ standings os
@@ -60,19 +57,14 @@ module _ (os : List Order) (k q : ℕ) (lt : k < length os) where
       omega arith
     where
       fewer : (n m : ℕ) → one_if (ltb 0 (n - m)) ≤ one_if (ltb 0 n)
-      fewer n m = elim (cases_lt 0 n) [
-        | inl l ↦ rw (lt-ltb 0 n l) (cond_both (ltb 0 (n - m)) 1 0 (λ x. x ≤ 1) (λ _. omega arith) (λ _. omega arith))
-        | inr g ↦ rw (le-ltb 0 (n - m) (omega arith)) (omega arith)
-      ]
+      fewer n m = grind arith
 
   -- one that takes all leaves one standing order fewer
   standings_fewer : 0 < standing (at os k) → standing (at os k) ≤ q → standings filled + 1 ≡ standings os
   standings_fewer some all =
       let s = sum_by-set (λ (o : Order). one_if (ltb 0 (standing o))) os k (filled_by q (at os k)) no_order lt in
-      let e : one_if (ltb 0 (standing (filled_by q (at os k)))) ≡ 0 =
-      ap (λ n. one_if (ltb 0 n)) (filled_standing q (at os k)) ∙ ap one_if (le-ltb 0 (standing (at os k) - q) (omega arith)) in
-      let f : one_if (ltb 0 (standing (at os k))) ≡ 1 = ap one_if (lt-ltb 0 (standing (at os k)) some) in
-      omega arith
+      let t = filled_standing q (at os k) in
+      grind arith
 
 -- ---- the pair
 
@@ -84,13 +76,9 @@ pub record Pair (os : List Order) (p : ℕ × ℕ) : Type 0 where
 
 meeting_pair : (os : List Order) (b s : Option ℕ) (p : ℕ × ℕ) → IfSome b (λ k. stands true (at os k) ≡ true) →
     IfSome s (λ k. stands false (at os k) ≡ true) → meeting os b s ≡ Some p → Pair os p
-meeting_pair os None s p f g e = absurd (some≢none p (sym e))
-meeting_pair os (Some b) None p f g e = absurd (some≢none p (sym e))
-meeting_pair os (Some b) (Some s) p f g e =
-    cond_both (leb (at os s).limit (at os b).limit) (Some (b, s)) None (λ o. o ≡ Some p → Pair os p)
-    (λ y q. let r : (b, s) ≡ p = cc in subst (Pair os) r (record { buys = f; sells = g; meets = leb-true (at os s).limit (at os b).limit y }))
-    (λ _ q. absurd (some≢none p (sym q)))
-    e
+meeting_pair os None s p f g e = grind arith
+meeting_pair os (Some b) None p f g e = grind arith
+meeting_pair os (Some b) (Some s) p f g e = grind arith
 
 pub best_meets : (rules : Pairs) (os : List Order) (p : ℕ × ℕ) → best_pair rules os ≡ Some p → Pair os p
 best_meets rules os p e = meeting_pair os (best_place rules true os) (best_place rules false os) p (best_stands rules.buys true os) (best_stands rules.sells false os) e
@@ -118,16 +106,16 @@ module _ (rules : Pairs) (os : List Order) (i : ℕ) (p : ℕ × ℕ) (nb : Numb
   ys = fill os bl
 
   buy_parts : (buys (at os b).side ≡ true) × (ltb 0 (standing (at os b)) ≡ true)
-  buy_parts = and_parts (buys (at os b).side) (ltb 0 (standing (at os b))) h.buys
+  buy_parts = let y = h.buys in grind arith
 
   sell_parts : (not (buys (at os s).side) ≡ true) × (ltb 0 (standing (at os s)) ≡ true)
-  sell_parts = and_parts (not (buys (at os s).side)) (ltb 0 (standing (at os s))) h.sells
+  sell_parts = let y = h.sells in grind arith
 
   pub is_buy : buys (at os b).side ≡ true
   is_buy = buy_parts.0
 
   pub is_sell : buys (at os s).side ≡ false
-  is_sell = not-true (buys (at os s).side) sell_parts.0
+  is_sell = let y = sell_parts.0 in grind arith
 
   pub buy_in : b < length os
   buy_in = stands_in true os b h.buys
@@ -136,16 +124,16 @@ module _ (rules : Pairs) (os : List Order) (i : ℕ) (p : ℕ × ℕ) (nb : Numb
   sell_in = stands_in false os s h.sells
 
   pub buy_some : 0 < standing (at os b)
-  buy_some = ltb-true 0 (standing (at os b)) buy_parts.1
+  buy_some = let y = buy_parts.1 in grind arith
 
   pub sell_some : 0 < standing (at os s)
-  sell_some = ltb-true 0 (standing (at os s)) sell_parts.1
+  sell_some = let y = sell_parts.1 in grind arith
 
   pub some_quantity : 0 < q
   some_quantity = omega (arith, buy_some, sell_some)
 
   pub apart : s ≡ b → ⊥
-  apart e = both_ways (buys (at os b).side) (subst (λ k. buys (at os k).side ≡ false) e is_sell) is_buy
+  apart e = let b = is_buy in let s = is_sell in grind arith
 
   pub place_b : place_of bl ≡ b
   place_b = omega (arith, nb b buy_in)
@@ -173,9 +161,6 @@ module _ (rules : Pairs) (os : List Order) (i : ℕ) (p : ℕ × ℕ) (nb : Numb
 
   sell_in_after : s < length after_buy
   sell_in_after = omega (arith, length-set os b (filled_by q (at os b)), sell_in)
-
-  pub long_after : length (after_pair rules os i p) ≡ length os
-  long_after = ap length both_fills ∙ length-set after_buy s (filled_by q (at after_buy s)) ∙ length-set os b (filled_by q (at os b))
 
   pub numbered_after : Numbered (after_pair rules os i p)
   numbered_after = subst Numbered (sym both_fills) (numbered_filled after_buy s q sell_in_after (numbered_filled os b q buy_in nb))

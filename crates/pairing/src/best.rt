@@ -1,10 +1,9 @@
 //! The best standing order of a side, found by quotes.
 ghost use Rattle.std.specs.Prelude.{◌≡◌, length, None, MatchOption};
-ghost use Rattle.curves.specs.Orders.{on};
 ghost use Rattle.ranking.specs.Orders.{order_rank};
-ghost use Rattle.orders.specs.Orders.{buys, bid_of};
+ghost use Rattle.orders.specs.Orders.{buys};
 ghost use Rattle.orders.specs.Kept.{Sound};
-ghost use Rattle.steps.specs.Pairing.{fields_of};
+ghost use Rattle.steps.specs.Pairing.{fields_of, stands};
 ghost use Rattle.pairing.specs.Quotes.{quote_on, best_on};
 ghost use Rattle.pairing.specs.Found.{BestOrder};
 
@@ -23,17 +22,14 @@ pub(crate) struct Best {
     pub(crate) left: u32,
 }
 
-/// Whether the order is on the side.
-fn is_on(side: Side, order: &Order) -> bool
-    ensures { result ≡ on (buys side) (bid_of order.now) }
+/// Whether the order stands on the side.
+fn stands(side: Side, order: &Order) -> bool
+    ensures { result ≡ stands (buys side) order.now }
 {
-    match (side, order.side) {
-        (Side::Buy, Side::Buy) | (Side::Sell, Side::Sell) => true,
-        _ => false,
-    }
+    order.side == side && order.standing() > 0
 }
 
-/// What a ranking reads of the order.
+/// What a ranking reads of the order. A function, since `From` may be written only beside one of the two types.
 fn fields_of(order: &Order) -> OrderFields
     ensures { result ≡ fields_of order.now }
 {
@@ -45,7 +41,8 @@ fn fields_of(order: &Order) -> OrderFields
     }
 }
 
-/// The orders that stand on a side, seen as quotes.
+/// The orders that stand on a side, seen as quotes. `ranking::orders::Quotes` cannot serve: its table holds bare fields
+/// of one side, and would have to be filled at each search.
 #[derive(Drop)]
 struct Standing<'a, Q> {
     orders: &'a [Order],
@@ -63,12 +60,9 @@ impl<'a, Q: OrderQuote> Places<Q> for Standing<'a, Q> {
     }
 
     fn at(&self, place: usize) -> Option<Q> {
-        if place >= self.orders.len() {
-            return None;
-        }
-        let order = fields_of(&self.orders[place]);
-        if is_on(self.side, &self.orders[place]) && order.left > 0 {
-            Some(Q::make(&order))
+        let order = self.orders.get(place)?;
+        if stands(self.side, order) {
+            Some(Q::make(&fields_of(order)))
         } else {
             None
         }

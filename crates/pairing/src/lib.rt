@@ -36,7 +36,7 @@ fn best_pair<R: Ranking, P: PairPrice>(orders: &[Order], price: &P) -> Option<Me
 {
     let buy = best_standing::<R::Buy>(orders, Side::Buy)?;
     let sell = best_standing::<R::Sell>(orders, Side::Sell)?;
-    if buy.limit.value < sell.limit.value {
+    if buy.limit < sell.limit {
         return None;
     }
     Some(Meeting {
@@ -60,7 +60,7 @@ pub fn pair<R: Ranking, P: PairPrice>(tables: &mut Tables, price: &P) -> u64
         // There is room for both lines: every pair so far has ended an order.
         tables.trade(pair.buy, pair.quantity, pair.price);
         tables.trade(pair.sell, pair.quantity, pair.price);
-        volume += pair.quantity as u64;
+        volume += u64::from(pair.quantity);
     }
     tables.rank_lines();
     volume

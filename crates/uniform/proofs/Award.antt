@@ -1,15 +1,14 @@
 -- What all orders get by the margins of V is the award of the sharing rule.
-use Rattle.std.proofs.Common.{◌≡◌, ℕ, ◌+◌, ◌-◌, ◌<◌, ◌≤◌, Bool, true, cond, eqb, List, [], length, get_or, take, count_by, filter, sym, refl, ap, ◌∙◌, subst, inl, inr, arith}
+use Rattle.std.proofs.Common.{◌≡◌, ℕ, ◌-◌, ◌<◌, ◌≤◌, Bool, true, cond, eqb, List, [], length, get_or, take, drop, count_by, sym, ap, ◌∙◌, add-zero, subst, arith}
 use Rattle.std.specs.List.{AllByRecursion}
-use Rattle.std.proofs.lemmas.List.{get_or-take, length-map, take-map}
+use Rattle.std.proofs.lemmas.List.{get_or-drop, length-map, take-map}
 use Rattle.std.proofs.ByRecursion.{All-from_get_or, all_kept_by, All-map, All-get_or}
 use Rattle.std.proofs.lemmas.List.FromFn.{length-map-range_with_len, get_or-map-range_with_len, fill_by_all}
-use Rattle.std.proofs.lemmas.Bool.{cases_Bool, cond-true, cond-false, and_from}
-use Rattle.curves.specs.Orders.{Bid, no_bid, on, better, demand, supply, OnTicks}
+use Rattle.std.proofs.lemmas.Bool.{cond-true}
+use Rattle.curves.specs.Orders.{Bid, no_bid, better, demand, supply, OnTicks}
 use Rattle.curves.specs.Orders.{at as bid}
 use Rattle.curves.specs.Sharing.{SharingMeaning, SharingLaw}
 use Rattle.curves.specs.Filling.{ahead, grouped, group, earlier, share_of, filled, award_by}
-use Rattle.curves.proofs.Orders.{on_of_buys}
 use Rattle.curves.proofs.Filling.{award_of_sharing}
 use Rattle.ticks.specs.Ticks.{highest_tick}
 use Rattle.orders.specs.declared.order.Order.{Order}
@@ -21,14 +20,14 @@ use Rattle.orders.proofs.Bids.{bid_at}
 use Rattle.steps.specs.Uniform.{standing_of, standing_bids, uniform_volume, lines_at}
 use Rattle.uniform.specs.declared.margin.Margin.{Margin}
 use Rattle.uniform.specs.declared.margin.Margins.{Margins}
-use Rattle.uniform.specs.Margins.{ahead_of, marginal, marginal_group, granted, margin_of, grant_of, margins_at, grants, Ready, Starts, MadeBy}
+use Rattle.uniform.specs.Margins.{ahead_of, marginal, marginal_group, granted, margin_of, grant_of, margins_at, grants, Ready, MadeBy}
 use Rattle.uniform.proofs.Places.{kept_front, kept_here, kept_within}
 use Rattle.uniform.proofs.Groups.{group_standing, count_standing, advanced, advanced_by}
 use Rattle.uniform.proofs.Spread.{stands, spread, length_spread, lines_spread, getD_spread}
 use Rattle.uniform.proofs.Filled.{RunsOut, filled_by_margin, margin_facts}
 
-module _ (share : SharingMeaning) (law : SharingLaw share) (os : List Order) (sound : Sound os (length os)) (ms : Margins) (starts : Starts ms)
-    (made : MadeBy share (demand highest_tick (standing_bids os)) (supply highest_tick (standing_bids os)) (uniform_volume os) os ms) where
+module _ (share : SharingMeaning) (law : SharingLaw share) (os : List Order) (sound : Sound os (length os)) (ms : Margins)
+    (made : MadeBy share (demand highest_tick (standing_bids os)) (supply highest_tick (standing_bids os)) os ms) where
   abbrev bs : List Bid
   bs = standing_bids os
 
@@ -89,17 +88,13 @@ module _ (share : SharingMeaning) (law : SharingLaw share) (os : List Order) (so
         ∙ count_standing side (M side) (take k os)
 
     -- the next share of the margin's group
-    share_there : (side : Bool) → marginal side (M side) o ≡ true → share_of share V side bs (M side) j ≡ get_or (margin_of side ms).shares (before side) 0
-    share_there side y =
+    share_there : (side : Bool) → share_of share V side bs (M side) j ≡ get_or (margin_of side ms).shares (before side) 0
+    share_there side =
         let G = marginal_group side (M side) os in
-        let sh = (margin_of side ms).shares in
-        let in-it : before side < length G =
-        omega (arith, kept_within (marginal side (M side)) no_order os k h y, length-map (filter (marginal side (M side)) os) (λ (o : Order). o.left)) in
         ap (λ z. get_or (share (V - z) (group side bs (M side))) (earlier side bs (M side) j) 0) (ahead_same side)
         ∙ ap (λ z. get_or (share (V - ahead_of side D S (M side)) z) (earlier side bs (M side) j) 0) (group_standing side (M side) os)
         ∙ ap (λ z. get_or (share (V - ahead_of side D S (M side)) G) z 0) (earlier_same side)
         ∙ sym (ap (λ z. get_or z (before side) 0) (made.shares side))
-        ∙ get_or-take (length G) sh (before side) 0 in-it
 
     -- what a bid at this place gets
     abbrev gets : Bid → ℕ
@@ -121,23 +116,13 @@ module _ (share : SharingMeaning) (law : SharingLaw share) (os : List Order) (so
     granted_there : granted side (margin_of side (margins_at ms os k)) o.limit o.left ≡ get_or qs j 0
     granted_there =
         let sh = (margin_of side ms).shares in
-        let first : (margin_of side ms).next + before side ≡ before side = omega (arith, starts.first side) in
+        let next : get_or (drop (before side) sh) 0 0 ≡ share_of share V side bs (M side) j =
+        get_or-drop (before side) sh 0 0 ∙ ap (λ n. get_or sh n 0) (add-zero (before side)) ∙ sym (share_there side) in
         let left : o.left ≡ standing o = sym (cond-true (stands o) o.left 0 st) in
         ap (λ (m : Margin). granted side m o.limit o.left) margin_there
-        ∙ ap (λ z. cond (better side o.limit (M side)) o.left (cond (eqb o.limit (M side)) (get_or sh z 0) 0)) first
-        ∙ ap (λ z. cond (better side o.limit (M side)) z (cond (eqb o.limit (M side)) (get_or sh (before side) 0) 0)) left
-        ∙ ap (λ z. cond (better side o.limit (M side)) (standing o) z) group_part
+        ∙ ap (λ z. cond (better side o.limit (M side)) o.left (cond (eqb o.limit (M side)) z 0)) next
+        ∙ ap (λ z. cond (better side o.limit (M side)) z (cond (eqb o.limit (M side)) (share_of share V side bs (M side) j) 0)) left
         ∙ sym award_there
-      where
-        group_part : cond (eqb o.limit (M side)) (get_or (margin_of side ms).shares (before side) 0) 0
-            ≡ cond (eqb o.limit (M side)) (share_of share V side bs (M side) j) 0
-        group_part =
-            elim (cases_Bool (eqb o.limit (M side))) [
-              | inl y ↦
-                  let mine : marginal side (M side) o ≡ true = and_from (stands o) _ st (and_from (on side (bid_of o)) (eqb o.limit (M side)) (on_of_buys side (bid_of o) refl) y) in
-                  ap (λ z. cond (eqb o.limit (M side)) z 0) (sym (share_there side mine))
-              | inr n ↦ cond-false (eqb o.limit (M side)) _ 0 n ∙ sym (cond-false (eqb o.limit (M side)) _ 0 n)
-            ]
 
     award_within : get_or qs j 0 ≤ standing o
     award_within =
@@ -145,11 +130,7 @@ module _ (share : SharingMeaning) (law : SharingLaw share) (os : List Order) (so
 
   grant_there : (k : ℕ) → k < length os → get_or (spread os qs) k 0 ≡ grant_of (margins_at ms os k) (at os k)
   grant_there k h =
-      getD_spread os qs k h
-      ∙ elim (cases_Bool (stands (at os k))) [
-        | inl y ↦ ap (λ z. cond (stands (at os k)) z 0) (sym (granted_there k h y))
-        | inr n ↦ cond-false (stands (at os k)) _ 0 n ∙ sym (cond-false (stands (at os k)) _ 0 n)
-      ]
+      let given = getD_spread os qs k h in let here = granted_there k h in grind arith
 
   pub grants_are : grants ms os ≡ spread os qs
   grants_are = sym (fill_by_all (λ k. grant_of (margins_at ms os k) (at os k)) (spread os qs) (length os) 0 (length_spread os qs) grant_there)
@@ -158,10 +139,8 @@ module _ (share : SharingMeaning) (law : SharingLaw share) (os : List Order) (so
   grants_within k h =
       let e : get_or (grants ms os) k 0 ≡ cond (stands (at os k)) (get_or qs (count_by stands (take k os)) 0) 0 =
       ap (λ z. get_or z k 0) grants_are ∙ getD_spread os qs k h in
-      elim (cases_Bool (stands (at os k))) [
-        | inl y ↦ omega (arith, e, cond-true (stands (at os k)) (get_or qs (count_by stands (take k os)) 0) 0 y, award_within k h y)
-        | inr n ↦ omega (arith, e, cond-false (stands (at os k)) (get_or qs (count_by stands (take k os)) 0) 0 n)
-      ]
+      let within = award_within k h in
+      grind arith
 
   pub round_ready : (s : Session) → s.orders ≡ os → s.lines ≡ [] → length os ≤ most_orders → Ready s (grants ms os)
   round_ready s e fresh few = record {

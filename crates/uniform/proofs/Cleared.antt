@@ -17,7 +17,7 @@ use Rattle.orders.specs.Kept.{Sound}
 use Rattle.orders.proofs.Sessions.{settled_one_by_one}
 use Rattle.steps.specs.Uniform.{standing_of, standing_bids, uniform_volume, uniform_price, uniform_lines, lines_at}
 use Rattle.uniform.specs.declared.margin.Margins.{Margins}
-use Rattle.uniform.specs.Margins.{grants, all_lines, posted_lines, Starts, MadeBy}
+use Rattle.uniform.specs.Margins.{grants, all_lines, posted_lines, MadeBy}
 use Rattle.uniform.proofs.Standing.{demand_standing, supply_standing}
 use Rattle.uniform.proofs.Award.{round_lines}
 
@@ -34,9 +34,9 @@ module _ (os : List Order) (d s : List ℕ)
       ap curve offered ∙ curve_figures highest_tick (supply highest_tick (bids_of os)) (orders_make_curves highest_tick (bids_of os)).supply_ends
       ∙ supply_standing highest_tick os
 
-  pub volume_seen : (v : ℕ) → v ≡ volume highest_tick (curve d) (curve s) → v ≡ uniform_volume os
-  volume_seen v e =
-      e ∙ ap (λ (z : ℕ → ℕ). volume highest_tick z (curve s)) demand_seen
+  pub volume_seen : volume highest_tick (curve d) (curve s) ≡ uniform_volume os
+  volume_seen =
+      ap (λ (z : ℕ → ℕ). volume highest_tick z (curve s)) demand_seen
       ∙ ap (λ (z : ℕ → ℕ). volume highest_tick (demand highest_tick (standing_bids os)) z) supply_seen
 
   price_seen : (price : PriceMeaning) (r : ℕ) → price d s r ≡ price_by price highest_tick (standing_bids os) r
@@ -48,26 +48,24 @@ module _ (os : List Order) (d s : List ℕ)
   pub asked : (price : PriceMeaning) (r p : ℕ) → ltb 0 (uniform_volume os) ≡ true → p ≡ price d s r → p ≡ uniform_price price r os
   asked price r p some e = e ∙ price_seen price r ∙ sym (cond-true (ltb 0 (uniform_volume os)) (price_by price highest_tick (standing_bids os) r) 0 some)
 
-  pub made_seen : (share : SharingMeaning) (v : ℕ) (orders : List Order) (ms : Margins) → v ≡ volume highest_tick (curve d) (curve s) → orders ≡ os →
-      MadeBy share (curve d) (curve s) v orders ms →
-      MadeBy share (demand highest_tick (standing_bids os)) (supply highest_tick (standing_bids os)) (uniform_volume os) os ms
-  made_seen share v orders ms e same made =
-      subst (λ (z : List Order). MadeBy share (demand highest_tick (standing_bids os)) (supply highest_tick (standing_bids os)) (uniform_volume os) z ms) same
-      (subst (λ (z : ℕ). MadeBy share (demand highest_tick (standing_bids os)) (supply highest_tick (standing_bids os)) z orders ms) (volume_seen v e)
-      (subst (λ (z : ℕ → ℕ). MadeBy share (demand highest_tick (standing_bids os)) z v orders ms) supply_seen
-      (subst (λ (z : ℕ → ℕ). MadeBy share z (curve s) v orders ms) demand_seen made)))
+  pub made_seen : (share : SharingMeaning) (orders : List Order) (ms : Margins) → orders ≡ os → MadeBy share (curve d) (curve s) orders ms →
+      MadeBy share (demand highest_tick (standing_bids os)) (supply highest_tick (standing_bids os)) os ms
+  made_seen share orders ms same made =
+      subst (λ (z : List Order). MadeBy share (demand highest_tick (standing_bids os)) (supply highest_tick (standing_bids os)) z ms) same
+      (subst (λ (z : ℕ → ℕ). MadeBy share (demand highest_tick (standing_bids os)) z orders ms) supply_seen
+      (subst (λ (z : ℕ → ℕ). MadeBy share z (curve s) orders ms) demand_seen made))
 
 -- lines that are posted in a session without lines, and then ranked, are settled
 pub round_settles : (price : PriceMeaning) (share : SharingMeaning) (law : SharingLaw share) (r p : ℕ) (before s : Session) (ms : Margins) →
-    s ≡ cleared before → Sound s.orders (length s.orders) → Starts ms →
-    MadeBy share (demand highest_tick (standing_bids s.orders)) (supply highest_tick (standing_bids s.orders)) (uniform_volume s.orders) s.orders ms →
+    s ≡ cleared before → Sound s.orders (length s.orders) →
+    MadeBy share (demand highest_tick (standing_bids s.orders)) (supply highest_tick (standing_bids s.orders)) s.orders ms →
     ltb 0 (uniform_volume s.orders) ≡ true → p ≡ uniform_price price r s.orders →
     with_ranked_lines (posted_lines s (all_lines p s (grants ms s.orders))) ≡ settled (uniform_lines price share r before.orders) before
-round_settles price share law r p before s ms e sound starts made some is =
+round_settles price share law r p before s ms e sound made some is =
     let os = s.orders in
     let award = award_by share highest_tick (standing_bids os) in
     let lines : all_lines p s (grants ms os) ≡ uniform_lines price share r os =
-    round_lines share law os sound ms starts made p
+    round_lines share law os sound ms made p
     ∙ ap (λ z. lines_at z 0 (standing_of os) award) is
     ∙ sym (cond-true (ltb 0 (uniform_volume os)) (lines_at (uniform_price price r os) 0 (standing_of os) award) [] some) in
     ap (λ (z : List Line). with_ranked_lines (posted_lines s z)) lines

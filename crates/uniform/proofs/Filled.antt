@@ -1,6 +1,6 @@
 -- What an order gets by the margin of its side is its share in its own group.
 use Rattle.std.proofs.Common.{◌≡◌, ℕ, zero, suc, ◌<◌, ◌≤◌, min, Bool, true, false, cond, eqb, leb, ◌⊎◌, List, length, refl, ap, inl, inr, arith}
-use Rattle.std.proofs.lemmas.Bool.{cases_lt, lt-ltb, le-ltb, eq-eqb, ne_eqb, ltb-true, leb-true, le-leb}
+use Rattle.std.proofs.lemmas.Bool.{cases_lt, eq-eqb, leb-true, le-leb}
 use Rattle.curves.specs.Sums.{lowest}
 use Rattle.curves.specs.Curves.{executable}
 use Rattle.curves.specs.Crossing.{before}
@@ -21,20 +21,16 @@ pub record RunsOut (v : ℕ) (side : Bool) (bs : List Bid) (m : ℕ) : Type 0 wh
 
 -- limits are better, equal or worse
 three : (side : Bool) (l m : ℕ) → (better side l m ≡ true) ⊎ ((l ≡ m) ⊎ (better side m l ≡ true))
-three true l m = elim (cases_lt m l) [ inl a ↦ inl (lt-ltb m l a) | inr b ↦ elim (cases_lt l m) [ inl a ↦ inr (inr (lt-ltb l m a)) | inr c ↦ inr (inl (omega arith)) ] ]
-three false l m = elim (cases_lt l m) [ inl a ↦ inl (lt-ltb l m a) | inr b ↦ elim (cases_lt m l) [ inl a ↦ inr (inr (lt-ltb m l a)) | inr c ↦ inr (inl (omega arith)) ] ]
-
-better_not_same : (side : Bool) (l m : ℕ) → better side l m ≡ true → eqb l m ≡ false
-better_not_same true l m b = ne_eqb l m (λ e. omega (arith, ltb-true m l b))
-better_not_same false l m b = ne_eqb l m (λ e. omega (arith, ltb-true l m b))
+three true l m = grind arith
+three false l m = grind arith
 
 worse_not_better : (side : Bool) (l m : ℕ) → better side m l ≡ true → (better side l m ≡ false) × (eqb l m ≡ false)
-worse_not_better true l m b = (le-ltb m l (omega (arith, ltb-true l m b)), ne_eqb l m (λ e. omega (arith, ltb-true l m b)))
-worse_not_better false l m b = (le-ltb l m (omega (arith, ltb-true m l b)), ne_eqb l m (λ e. omega (arith, ltb-true m l b)))
+worse_not_better true l m b = grind arith
+worse_not_better false l m b = grind arith
 
 same_not_better : (side : Bool) (l m : ℕ) → l ≡ m → better side l m ≡ false
-same_not_better true l m e = le-ltb m l (omega arith)
-same_not_better false l m e = le-ltb l m (omega arith)
+same_not_better true l m e = grind arith
+same_not_better false l m e = grind arith
 
 module _ (share : SharingMeaning) (law : SharingLaw share) (v : ℕ) (bs : List Bid) where
   -- what the order at place k gets, where v runs out at m on its side
@@ -50,12 +46,11 @@ module _ (share : SharingMeaning) (law : SharingLaw share) (v : ℕ) (bs : List 
       elim (three side l m) [
         | inl b ↦
             rw b (fits_full share law v side bs l (omega (arith, willing_le_ahead side bs l m b, out.before)) k h own)
-        | inr r ↦ elim r [
-          | inl e ↦ rw (same_not_better side l m e, eq-eqb l m e) (ap (λ z. share_of share v side bs z k) e)
-          | inr w ↦
-              let none = past_none share law v side bs l (omega (arith, willing_le_ahead side bs m l w, out.enough)) k h own in
-              rw ((worse_not_better side l m w).0, (worse_not_better side l m w).1) none
-        ]
+        | inr (inl e) ↦ rw (same_not_better side l m e, eq-eqb l m e) (ap (λ z. share_of share v side bs z k) e)
+        | inr (inr w) ↦
+            let none = past_none share law v side bs l (omega (arith, willing_le_ahead side bs m l w, out.enough)) k h own in
+            let worse = worse_not_better side l m w in
+            grind arith
       ]
 
 -- ---- the margin of V
@@ -75,21 +70,21 @@ module _ (bs : List Bid) (t : OnTicks highest_tick bs) where
 
   -- V is open at its margin, and no more than V is open at better limits
   pub margin_facts : (side : Bool) →
-      (ahead side bs (margin_tick side D S V) ≡ ahead_of side D S (margin_tick side D S V)) × RunsOut V side bs (margin_tick side D S V)
+      (ahead side bs (margin_tick side D S) ≡ ahead_of side D S (margin_tick side D S)) × RunsOut V side bs (margin_tick side D S)
   margin_facts true =
       let (p, tick, e) = greatest_at highest_tick (executable D S) in
       let P : ℕ → Bool = λ p. leb V (D p) in
-      let m = margin_tick true D S V in
+      let m = margin_tick true D S in
       let yes : P p ≡ true = le-leb V (D p) (omega arith) in
       let passes = highest_passes (suc highest_tick) P p (omega arith) yes in
       let le : m ≤ highest_tick = highest_tick_le highest_tick P in
       let ah : ahead true bs m ≡ D (suc m) = demand_above highest_tick bs m t le in
       let small : D (suc m) ≤ V =
       elim (cases_lt V (D (suc m))) [
-        | inl over ↦ elim (cases_lt m highest_tick) [
-          | inl l ↦ absurd (omega (arith, highest_ge (suc highest_tick) P (suc m) (omega arith) (le-leb V (D (suc m)) (omega arith))))
-          | inr g ↦ omega (arith, (orders_make_curves highest_tick bs).demand_ends (suc m) (omega arith))
-        ]
+        | inl over ↦
+            let past = highest_ge (suc highest_tick) P (suc m) in
+            let ends = (orders_make_curves highest_tick bs).demand_ends (suc m) in
+            grind arith
         | inr ok ↦ ok
       ] in
       (ah, record { before = omega arith; enough = omega (arith, leb-true V (D m) passes.0, cut_le (leb m highest_tick) (willing true bs m)) })
@@ -100,7 +95,7 @@ module _ (bs : List Bid) (t : OnTicks highest_tick bs) where
       let yes : P p ≡ true = le-leb V (S p) (omega arith) in
       let le : low ≤ p = lowest_le (suc highest_tick) P p (omega arith) yes in
       let here : min low highest_tick ≡ low = omega arith in
-      let m = margin_tick false D S V in
+      let m = margin_tick false D S in
       let passes : P low ≡ true = lowest_passes (suc highest_tick) P (omega arith) in
       let enough : V ≤ S m = omega (arith, leb-true V (S low) passes, ap S here) in
       let ah : ahead false bs m ≡ before S m = before_supply highest_tick bs m t (omega arith) in
@@ -110,7 +105,4 @@ module _ (bs : List Bid) (t : OnTicks highest_tick bs) where
       below : (low : ℕ) → low ≤ highest_tick → ((k : ℕ) → k < suc highest_tick → leb V (S k) ≡ true → low ≤ k) → before S low ≤ V
       below zero le first = omega arith
       below (suc k) le first =
-          elim (cases_lt V (S k)) [
-            | inl over ↦ absurd (omega (arith, first k (omega arith) (le-leb V (S k) (omega arith))))
-            | inr ok ↦ ok
-          ]
+          let here = first k (omega arith) in grind arith

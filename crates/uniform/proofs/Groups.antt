@@ -1,42 +1,22 @@
--- The groups of the standing orders, and the cursor of a margin.
-use Rattle.std.proofs.Common.{◌≡◌, ℕ, suc, ◌+◌, ◌<◌, ◌≤◌, Bool, true, false, cond, ◌&&◌, eqb, List, [], ◌∷◌, map, length, take, fold, count_by, filter, sym, refl, ap, ◌∙◌, inl, inr, arith}
-use Rattle.std.proofs.lemmas.List.Sums.{sum_by-cons, count_by-le-length}
-use Rattle.std.proofs.lemmas.List.{length-take-le}
-use Rattle.std.proofs.lemmas.Bool.{cases_Bool, cond-true, cond-false}
+-- The groups of the standing orders, and what a margin has left of its shares.
+use Rattle.std.proofs.Common.{◌≡◌, ℕ, ◌+◌, Bool, true, false, cond, ◌&&◌, eqb, List, [], ◌∷◌, length, drop, fold, count_by, sym, refl, ap, ◌∙◌, arith}
+use Rattle.std.proofs.lemmas.List.{drop-drop}
+use Rattle.std.proofs.lemmas.List.Sums.{sum_by-cons}
 use Rattle.curves.specs.Orders.{Bid, no_bid, on}
 use Rattle.curves.specs.Filling.{grouped, group}
 use Rattle.curves.proofs.Groups.{length_kept}
 use Rattle.orders.specs.declared.order.Order.{Order}
-use Rattle.orders.specs.Orders.{is_standing, standing, bid_of, bids_of, no_order, most_orders}
-use Rattle.steps.specs.Uniform.{standing_of, standing_bids}
+use Rattle.orders.specs.Orders.{is_standing, bid_of, no_order}
+use Rattle.steps.specs.Uniform.{standing_bids}
 use Rattle.uniform.specs.declared.margin.Margin.{Margin}
 use Rattle.uniform.specs.declared.margin.Margins.{Margins}
-use Rattle.uniform.specs.Margins.{marginal, marginal_group, passed, margin_of, turned, margins_at, Starts}
+use Rattle.uniform.specs.Margins.{marginal, marginal_group, passed, margin_of, turned}
 
 -- a group of the standing orders' bids
 pub group_standing : (side : Bool) (m : ℕ) (os : List Order) → group side (standing_bids os) m ≡ marginal_group side m os
 group_standing side m [] = refl
 group_standing side m (o ∷ os) =
-    let ih = group_standing side m os in
-    elim (cases_Bool (is_standing o.life)) [
-      | inl y ↦
-          let kept : standing_bids (o ∷ os) ≡ bid_of o ∷ standing_bids os = ap bids_of (cond-true (is_standing o.life) (o ∷ standing_of os) (standing_of os) y) in
-          let same : marginal side m o ≡ grouped side m (bid_of o) = ap (λ b. b && grouped side m (bid_of o)) y in
-          ap (λ z. group side z m) kept
-          ∙ one (grouped side m (bid_of o)) (cond-true (is_standing o.life) o.left 0 y) ih
-          ∙ sym (ap (λ b. map (λ (o : Order). o.left) (cond b (o ∷ filter (marginal side m) os) (filter (marginal side m) os))) same)
-      | inr n ↦
-          let kept : standing_bids (o ∷ os) ≡ standing_bids os = ap bids_of (cond-false (is_standing o.life) (o ∷ standing_of os) (standing_of os) n) in
-          let same : marginal side m o ≡ false = ap (λ b. b && grouped side m (bid_of o)) n in
-          ap (λ z. group side z m) kept ∙ ih
-          ∙ sym (ap (λ b. map (λ (o : Order). o.left) (cond b (o ∷ filter (marginal side m) os) (filter (marginal side m) os))) same)
-    ]
-  where
-    one : (b : Bool) → standing o ≡ o.left → group side (standing_bids os) m ≡ marginal_group side m os →
-        map (λ (b : Bid). b.left) (cond b (bid_of o ∷ filter (grouped side m) (standing_bids os)) (filter (grouped side m) (standing_bids os)))
-        ≡ map (λ (o : Order). o.left) (cond b (o ∷ filter (marginal side m) os) (filter (marginal side m) os))
-    one true e ih = ap (λ z. z ∷ group side (standing_bids os) m) e ∙ ap (λ z. o.left ∷ z) ih
-    one false e ih = ih
+    let rest = group_standing side m os in grind arith
 
 pub count_standing : (side : Bool) (m : ℕ) (os : List Order) → count_by (grouped side m) (standing_bids os) ≡ count_by (marginal side m) os
 count_standing side m os =
@@ -44,22 +24,14 @@ count_standing side m os =
     ∙ ap length (group_standing side m os)
     ∙ length_kept (marginal side m) no_order (λ (o : Order). o.left) os
 
--- ---- the cursor of a margin
+-- ---- the shares that a margin has left
 
 -- n shares further on
 abbrev pub advanced : ℕ → Margin → Margin
-advanced n m = record { limit = m.limit; shares = m.shares; next = m.next + n }
-
-stays : (m : Margin) → m ≡ advanced 0 m
-stays m = let e : m.next ≡ m.next + 0 = omega arith in ap (λ (z : ℕ). record { limit = m.limit; shares = m.shares; next = z }) e
+advanced n m = record { limit = m.limit; shares = drop n m.shares }
 
 one_turn : (st b : Bool) (l : ℕ) (m : Margin) → cond (st && b) (passed l m) m ≡ advanced (cond (st && (b && eqb l m.limit)) 1 0) m
-one_turn false b l m = stays m
-one_turn true false l m = stays m
-one_turn true true l m = ap (λ (z : ℕ). record { limit = m.limit; shares = m.shares; next = z }) (same (eqb l m.limit) m.next)
-  where
-    same : (b : Bool) (n : ℕ) → cond b (suc n) n ≡ n + cond b 1 0
-    same b n = grind arith
+one_turn st b l m = grind arith
 
 turn : (side : Bool) (ms : Margins) (o : Order) → margin_of side (turned ms o) ≡ advanced (cond (marginal side (margin_of side ms).limit o) 1 0) (margin_of side ms)
 turn true ms o = one_turn (is_standing o.life) (on true (bid_of o)) o.limit ms.buys
@@ -68,29 +40,12 @@ turn false ms o = one_turn (is_standing o.life) (on false (bid_of o)) o.limit ms
 -- after some orders a margin has gone past the shares of those in its group
 pub advanced_by : (side : Bool) (ms : Margins) (os : List Order) →
     margin_of side (fold turned ms os) ≡ advanced (count_by (marginal side (margin_of side ms).limit) os) (margin_of side ms)
-advanced_by side ms [] = stays (margin_of side ms)
+advanced_by side ms [] = refl
 advanced_by side ms (o ∷ os) =
     let m = margin_of side ms in
     let P = marginal side m.limit in
     let k = cond (P o) 1 0 in
-    let sum : m.next + k + count_by P os ≡ m.next + count_by P (o ∷ os) = omega (arith, sum_by-cons (λ (x : Order). cond (P x) 1 0) o os) in
+    let sum : k + count_by P os ≡ count_by P (o ∷ os) = omega (arith, sum_by-cons (λ (x : Order). cond (P x) 1 0) o os) in
     advanced_by side (turned ms o) os
     ∙ ap (λ (z : Margin). advanced (count_by (marginal side z.limit) os) z) (turn side ms o)
-    ∙ ap (λ (z : ℕ). record { limit = m.limit; shares = m.shares; next = z }) sum
-
--- there is a share left for the turn of place i
-pub share_left : (ms : Margins) (os : List Order) (i : ℕ) → Starts ms → i < length os → length os ≤ most_orders →
-    (side : Bool) → (margin_of side (margins_at ms os i)).next < length (margin_of side (margins_at ms os i)).shares
-share_left ms os i st h few side =
-    let m = margin_of side ms in
-    let P = marginal side m.limit in
-    let e = advanced_by side ms (take i os) in
-    omega (
-      arith,
-      ap (λ (z : Margin). z.next) e,
-      ap (λ (z : Margin). length z.shares) e,
-      count_by-le-length P (take i os),
-      length-take-le i os (omega arith),
-      st.first side,
-      st.wide side,
-    )
+    ∙ ap (λ (z : List ℕ). record { limit = m.limit; shares = z }) (drop-drop (count_by P os) k m.shares ∙ ap (λ n. drop n m.shares) sum)

@@ -1,6 +1,5 @@
 pub mod Standing
 pub mod Filled
-pub mod Gathered
 pub mod Places
 pub mod Groups
 pub mod Spread

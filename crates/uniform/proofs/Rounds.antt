@@ -57,8 +57,7 @@ module _ (p : ℕ) where
   lines_most j [] qs = omega arith
   lines_most j (o ∷ os) [] = omega arith
   lines_most j (o ∷ os) (q ∷ qs) =
-      cond_both (ltb 0 q) (line_of o q p j ∷ lines_at p (suc j) os qs) (lines_at p j os qs) (λ z. length z ≤ suc (length os))
-      (λ _. omega (arith, lines_most (suc j) os qs)) (λ _. omega (arith, lines_most j os qs))
+      let some = lines_most (suc j) os qs in let none = lines_most j os qs in grind arith
 
   -- each line is of an order among those gone through
   lines_below : (base n j : ℕ) (os : List Order) (qs : List ℕ) → ((k : ℕ) → k < length os → (at os k).number ≡ suc (base + k)) → base + length os ≤ n → AllByRecursion (λ (l : Line). l.order ≤ n) (lines_at p j os qs)
@@ -126,8 +125,7 @@ module _ (p : ℕ) (s : Session) (qs : List ℕ) (ready : Ready s qs) (i : ℕ) 
       ap (λ b. b && (ltb 0 q && leb q (standing (at t.orders i)))) room ∙ ap (λ b. ltb 0 q && b) enough ∙ and_true (ltb 0 q)
     where
       and_true : (b : Bool) → (b && true) ≡ b
-      and_true true = refl
-      and_true false = refl
+      and_true b = grind arith
 
   -- the turn of one order
   pub traded_more : (r : Bool) → r ≡ can_trade i q t → cond r (traded i q p t) t ≡ traded_to p s qs (i + 1)

@@ -1,7 +1,7 @@
 -- A look at each order tells the best limits, and so whether anything can trade.
-use Rattle.std.proofs.Common.{◌≡◌, ℕ, suc, ◌+◌, ◌-◌, ◌<◌, ◌≤◌, min, max, Bool, true, false, cond, not, ◌&&◌, eqb, ltb, leb, List, length, sym, refl, ap, ◌∙◌, inl, inr, arith}
+use Rattle.std.proofs.Common.{◌≡◌, ℕ, suc, ◌+◌, ◌-◌, ◌<◌, ◌≤◌, min, max, Bool, true, false, cond, not, ◌&&◌, ltb, leb, List, length, sym, refl, ap, ◌∙◌, inl, inr, arith}
 use Rattle.std.proofs.lemmas.List.{length-map}
-use Rattle.std.proofs.lemmas.Bool.{cases_lt, and_parts, ltb-true, lt-ltb, le-ltb, le-leb, lt-leb, cond-true, cond-false}
+use Rattle.std.proofs.lemmas.Bool.{cases_lt, lt-ltb, le-ltb, le-leb, lt-leb, cond-true, cond-false}
 use Rattle.curves.specs.Sums.{total}
 use Rattle.curves.specs.Curves.{executable}
 use Rattle.curves.specs.Orders.{Bid, on, keeps, willing, demand, supply, clearing_volume}
@@ -13,7 +13,7 @@ use Rattle.ticks.proofs.Steps.{total_none, total_more}
 use Rattle.orders.specs.declared.order.Life.{Life}
 use Rattle.orders.specs.declared.order.Life.TheVariants.{Standing, Filled, Withdrawn, Killed}
 use Rattle.orders.specs.declared.order.Order.{Order}
-use Rattle.orders.specs.Orders.{last_member, most_quantity, buys, is_standing, standing, left_by, bid_of, bids_of, at, sound_order}
+use Rattle.orders.specs.Orders.{buys, is_standing, standing, left_by, bid_of, bids_of, at, sound_order}
 use Rattle.orders.specs.Willing.{willing_at}
 use Rattle.orders.proofs.Keeps.{sound_parts}
 use Rattle.orders.proofs.Bids.{bid_at}
@@ -22,20 +22,13 @@ use Rattle.uniform.proofs.Standing.{volume_standing}
 
 -- a standing order has something left
 some_left : (k : ℕ) (o : Order) → sound_order k o ≡ true → is_standing o.life ≡ true → 0 < o.left
-some_left k o h =
-    let a = and_parts (eqb o.number (suc k)) _ h in
-    let b = and_parts (leb 1 o.member) _ a.1 in
-    let d = and_parts (leb o.member last_member) _ b.1 in
-    let e = and_parts (leb o.limit highest_tick) _ d.1 in
-    let f = and_parts (leb o.placed most_quantity) _ e.1 in
-    let g = and_parts (leb o.left o.placed) _ f.1 in
-    by_life o.life o.left g.1
+some_left k o h s = let left : left_by o.life o.left ≡ true = grind arith in by_life o.life o.left left s
   where
     by_life : (l : Life) (n : ℕ) → left_by l n ≡ true → is_standing l ≡ true → 0 < n
-    by_life Standing n y s = ltb-true 0 n y
-    by_life Filled n y s = let z : ◌≡◌ {A = Bool} false true = s in let w : ◌≡◌ {A = ℕ} 0 1 = ap (λ (b : Bool). cond b 1 0) z in omega arith
-    by_life Withdrawn n y s = let z : ◌≡◌ {A = Bool} false true = s in let w : ◌≡◌ {A = ℕ} 0 1 = ap (λ (b : Bool). cond b 1 0) z in omega arith
-    by_life Killed n y s = let z : ◌≡◌ {A = Bool} false true = s in let w : ◌≡◌ {A = ℕ} 0 1 = ap (λ (b : Bool). cond b 1 0) z in omega arith
+    by_life Standing n y s = grind arith
+    by_life Filled n y s = grind arith
+    by_life Withdrawn n y s = grind arith
+    by_life Killed n y s = grind arith
 
 -- what the first n orders have open on a side at tick p
 abbrev pub open_of : List Order → ℕ → Bool → ℕ → ℕ

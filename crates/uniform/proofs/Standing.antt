@@ -1,15 +1,14 @@
 -- Orders that do not stand add nothing: demand, supply and V are those of the standing orders.
-use Rattle.std.proofs.Common.{◌≡◌, ℕ, zero, suc, ◌≤◌, Bool, true, false, cond, leb, List, [], ◌∷◌, length, get_or, sum_by, sym, refl, ap, ◌∙◌, inl, inr, arith}
+use Rattle.std.proofs.Common.{◌≡◌, ℕ, zero, suc, ◌≤◌, Bool, true, false, cond, leb, List, [], ◌∷◌, length, get_or, sum_by, sym, refl, ap, ◌∙◌, arith}
 use Rattle.std.proofs.lemmas.List.Sums.{sum_by-cons}
-use Rattle.std.proofs.lemmas.Bool.{cases_Bool, cond-true, cond-false}
 use Rattle.curves.specs.Sums.{total, highest}
 use Rattle.curves.specs.Orders.{Bid, no_bid, willing, demand, supply, clearing_volume}
 use Rattle.curves.specs.Curves.{volume}
 use Rattle.curves.proofs.Sums.{total_head}
 use Rattle.orders.specs.declared.order.Order.{Order}
-use Rattle.orders.specs.Orders.{is_standing, standing, bid_of, bids_of}
+use Rattle.orders.specs.Orders.{bid_of, bids_of}
 use Rattle.orders.specs.Willing.{willing_at}
-use Rattle.steps.specs.Uniform.{standing_of, standing_bids}
+use Rattle.steps.specs.Uniform.{standing_bids}
 
 -- a sum by place is a sum over the list
 total_sumBy : {X : Type 0} (f : X → ℕ) (d : X) (xs : List X) → total (length xs) (λ k. f (get_or xs k d)) ≡ sum_by f xs
@@ -22,15 +21,9 @@ sum_standing f none [] = refl
 sum_standing f none (o ∷ os) =
     let ih = sum_standing f none os in
     let here = sum_by-cons f (bid_of o) (bids_of os) in
-    elim (cases_Bool (is_standing o.life)) [
-      | inl y ↦
-          let kept : standing_bids (o ∷ os) ≡ bid_of o ∷ standing_bids os = ap bids_of (cond-true (is_standing o.life) (o ∷ standing_of os) (standing_of os) y) in
-          omega (arith, ap (sum_by f) kept, sum_by-cons f (bid_of o) (standing_bids os))
-      | inr n ↦
-          let kept : standing_bids (o ∷ os) ≡ standing_bids os = ap bids_of (cond-false (is_standing o.life) (o ∷ standing_of os) (standing_of os) n) in
-          let zero_left : standing o ≡ 0 = cond-false (is_standing o.life) o.left 0 n in
-          omega (arith, ap (sum_by f) kept, none (bid_of o) zero_left)
-    ]
+    let kept = sum_by-cons f (bid_of o) (standing_bids os) in
+    let nothing = none (bid_of o) in
+    grind arith
 
 cut_none : (b : Bool) (x : ℕ) → x ≡ 0 → cond b x 0 ≡ 0
 cut_none b x e = grind arith
@@ -55,6 +48,5 @@ volume_standing top os =
 -- the highest place is below the end
 pub highest_tick_le : (n : ℕ) (P : ℕ → Bool) → highest (suc n) P ≤ n
 unfolding highest
-highest_tick_le zero P = elim (cases_Bool (P 0)) [ inl y ↦ rw y (omega arith) | inr z ↦ rw z (omega arith) ]
-highest_tick_le (suc n) P =
-    elim (cases_Bool (P (suc n))) [ inl y ↦ rw y (omega arith) | inr z ↦ rw z (omega (arith, highest_tick_le n P)) ]
+highest_tick_le zero P = grind arith
+highest_tick_le (suc n) P = let below = highest_tick_le n P in grind arith

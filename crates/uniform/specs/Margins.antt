@@ -1,12 +1,15 @@
 -- The margin of a side, and what each order is given by it.
-use Rattle.std.specs.Prelude.{◌≡◌, ℕ, suc, ◌-◌, ◌<◌, ◌≤◌, min, Bool, true, false, cond, ◌&&◌, List, [], map, length, take, fold, filter, ◌==◌, nat_le, slice_index}
+use Rattle.std.specs.Prelude.{◌≡◌, ℕ, suc, ◌-◌, ◌<◌, ◌≤◌, min, Bool, true, false, cond, ◌&&◌, List, [], map, length, take, drop, fold, filter, ◌==◌, nat_le, slice_index}
 use Rattle.std.specs.List.{range_with_len}
 use Rattle.curves.specs.Sums.{lowest, highest}
+use Rattle.curves.specs.Curves.{volume}
 use Rattle.curves.specs.Crossing.{before}
 use Rattle.curves.specs.Orders.{on, better}
 use Rattle.curves.specs.Sharing.{SharingMeaning}
 use Rattle.curves.specs.Filling.{grouped}
 use Rattle.ticks.specs.Ticks.{highest_tick}
+use Rattle.ticks.specs.Seen.{demand_of, supply_of}
+use Rattle.ticks.specs.declared.figures.Figures.{Figures}
 use Rattle.orders.specs.declared.order.Order.{Order}
 use Rattle.orders.specs.declared.order.Line.{Line}
 use Rattle.orders.specs.Orders.{most_orders, is_standing, standing, buys, bid_of, at}
@@ -16,10 +19,19 @@ use Rattle.steps.specs.Uniform.{lines_at}
 use Rattle.uniform.specs.declared.margin.Margin.{Margin}
 use Rattle.uniform.specs.declared.margin.Margins.{Margins}
 
--- the limit at which v runs out: the side's best tick with v open there, of demand D and supply S
-abbrev pub margin_tick : Bool → (ℕ → ℕ) → (ℕ → ℕ) → ℕ → ℕ
-margin_tick true D S v = highest (suc highest_tick) (λ p. nat_le v (D p))
-margin_tick false D S v = min (lowest (suc highest_tick) (λ p. nat_le v (S p))) highest_tick
+-- V of figures
+abbrev pub figures_volume : Figures → ℕ
+figures_volume f = volume highest_tick (demand_of f) (supply_of f)
+
+-- what a side has open at p, of demand D and supply S
+abbrev pub open_at : Bool → (ℕ → ℕ) → (ℕ → ℕ) → ℕ → ℕ
+open_at true D S p = D p
+open_at false D S p = S p
+
+-- the limit at which V runs out: the side's best tick with as much open
+abbrev pub margin_tick : Bool → (ℕ → ℕ) → (ℕ → ℕ) → ℕ
+margin_tick true D S = highest (suc highest_tick) (λ p. nat_le (volume highest_tick D S) (D p))
+margin_tick false D S = min (lowest (suc highest_tick) (λ p. nat_le (volume highest_tick D S) (S p))) highest_tick
 
 -- what is open at better limits than p
 abbrev pub ahead_of : Bool → (ℕ → ℕ) → (ℕ → ℕ) → ℕ → ℕ
@@ -34,13 +46,13 @@ marginal side l o = is_standing o.life && grouped side l (bid_of o)
 abbrev pub marginal_group : Bool → ℕ → List Order → List ℕ
 marginal_group side l os = map (λ (o : Order). o.left) (filter (marginal side l) os)
 
--- what an order with the limit l and q left gets: all of it, its share of the margin's group, or nothing
+-- what an order with the limit l and q left gets: all of it, the next share of the margin's group, or nothing
 abbrev pub granted : Bool → Margin → ℕ → ℕ → ℕ
-granted side m l q = cond (better side l m.limit) q (cond (l == m.limit) (slice_index m.shares m.next) 0)
+granted side m l q = cond (better side l m.limit) q (cond (l == m.limit) (slice_index m.shares 0) 0)
 
 -- the margin once an order with the limit l has had its turn
 abbrev pub passed : ℕ → Margin → Margin
-passed l m = record { limit = m.limit; shares = m.shares; next = cond (l == m.limit) (suc m.next) m.next }
+passed l m = record { limit = m.limit; shares = cond (l == m.limit) (drop 1 m.shares) m.shares }
 
 -- a side's margin
 abbrev pub margin_of : Bool → Margins → Margin
@@ -86,13 +98,8 @@ pub record Ready (s : Session) (qs : List ℕ) : Type 0 where
   pub whole : length qs ≡ length s.orders
   pub within : (k : ℕ) → k < length s.orders → slice_index qs k ≤ standing (at s.orders k)
 
--- no share of a margin has been taken yet
-pub record Starts (ms : Margins) : Type 0 where
-  pub wide : (side : Bool) → length (margin_of side ms).shares ≡ most_orders
-  pub first : (side : Bool) → (margin_of side ms).next ≡ 0
-
--- where each side gets v of the orders os: the margins' limits, and the shares of their groups
-pub record MadeBy (share : SharingMeaning) (D S : ℕ → ℕ) (v : ℕ) (os : List Order) (ms : Margins) : Type 0 where
-  pub limit : (side : Bool) → (margin_of side ms).limit ≡ margin_tick side D S v
-  pub shares : (side : Bool) → take (length (marginal_group side (margin_of side ms).limit os)) (margin_of side ms).shares
-      ≡ share (v - ahead_of side D S (margin_of side ms).limit) (marginal_group side (margin_of side ms).limit os)
+-- where each side gets V of the orders os: the margins' limits, and the shares of their groups
+pub record MadeBy (share : SharingMeaning) (D S : ℕ → ℕ) (os : List Order) (ms : Margins) : Type 0 where
+  pub limit : (side : Bool) → (margin_of side ms).limit ≡ margin_tick side D S
+  pub shares : (side : Bool) → (margin_of side ms).shares
+      ≡ share (volume highest_tick D S - ahead_of side D S (margin_of side ms).limit) (marginal_group side (margin_of side ms).limit os)

@@ -5,7 +5,7 @@ ghost use Rattle.std.specs.Prelude.{◌≡◌};
 ghost use Rattle.orders.specs.Held.{session_of};
 ghost use Rattle.orders.specs.Settlement.{settled};
 ghost use Rattle.steps.specs.Uniform.{uniform_volume, uniform_price, uniform_lines};
-ghost use Rattle.uniform.specs.Margins.{grants, posted_lines, all_lines, Ready, Starts};
+ghost use Rattle.uniform.specs.Margins.{grants, posted_lines, all_lines, Ready};
 
 use crate::crossed::is_crossed;
 use crate::margin::Margins;
@@ -35,21 +35,20 @@ pub fn clear<P: PriceRule, S: SharingRule>(
         return (0, 0);
     }
     let figures = tables.figures();
-    let volume = figures.volume();
     let tick = price.price(&figures, reference);
-    let margins = Margins::new(tables.placed(), &figures, volume, sharing);
+    let margins = Margins::new(tables.placed(), &figures, sharing);
     trade_all(tables, margins, tick);
     tables.rank_lines();
-    (volume, tick.value())
+    (figures.volume(), tick.value())
 }
 
 /// Every order, by number, trades what it is granted at its turn.
 fn trade_all(tables: &mut Tables, mut margins: Margins, price: Tick)
-    requires starts { Starts margins }
-    requires ready { Ready (session_of tables.old) (grants margins (session_of tables.old).orders) }
+    requires { Ready (session_of tables.old) (grants margins (session_of tables.old).orders) }
     ensures { session_of tables.new ≡ posted_lines (session_of tables.old) (all_lines price.value (session_of tables.old) (grants margins (session_of tables.old).orders)) }
 {
     let count = tables.placed().len();
+    // By place, since each trade changes the table that the next order is read from.
     for place in 0..count {
         let order = tables.placed()[place];
         let quantity = margins.grant(&order);

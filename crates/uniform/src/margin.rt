@@ -1,13 +1,13 @@
 //! The margin of a side: the limit at which the volume runs out, and what each order gets by it.
-ghost use Rattle.std.specs.Prelude.{◌≡◌, ◌-◌, ◌<◌, ◌≤◌, length, take};
+ghost use Rattle.std.specs.Prelude.{◌≡◌, ◌-◌, ◌≤◌, length};
 ghost use Rattle.ticks.specs.Seen.{demand_of, supply_of};
 ghost use Rattle.orders.specs.Orders.{most_orders};
-ghost use Rattle.uniform.specs.Margins.{margin_tick, ahead_of, marginal, marginal_group, granted, passed, grant_of, turned, Starts, MadeBy};
+ghost use Rattle.uniform.specs.Margins.{figures_volume, margin_tick, ahead_of, marginal, marginal_group, granted, passed, grant_of, turned, MadeBy};
 
 use crate::side::RoundSide;
+use arrayvec::{ArrayVec, IntoIter};
 use orders::order::{Life, MOST_ORDERS, Order, Side as OrderSide};
-use ranking::orders::{Buying, Continuous, LimitQuote, Selling, Side};
-use ranking::{OrderFields, OrderQuote, Quote};
+use ranking::orders::{Buying, Selling, Side};
 use rules::sharing::SharingRule;
 use ticks::figures::Figures;
 
@@ -16,50 +16,35 @@ use ticks::figures::Figures;
 #[derive(Drop)]
 pub(crate) struct Margin {
     limit: u16,
-    shares: [u32; MOST_ORDERS],
-    next: usize,
+    shares: IntoIter<u32, MOST_ORDERS>,
 }
 
 impl Margin {
     /// The margin of a side, its group's shares made by the rule from what the better limits leave of the volume.
-    fn new<S: RoundSide, R: SharingRule>(
-        orders: &[Order],
-        figures: &Figures,
-        volume: u64,
-        sharing: &R,
-    ) -> Margin
+    fn new<S: RoundSide, R: SharingRule>(orders: &[Order], figures: &Figures, sharing: &R) -> Margin
         requires { length orders.now ≤ most_orders }
-        ensures limit { result.limit ≡ margin_tick S.Side.buys (demand_of figures.now) (supply_of figures.now) volume }
-        ensures shares { take (length (marginal_group S.Side.buys result.limit orders.now)) result.shares ≡ R.SharingRule.meaning (volume - ahead_of S.Side.buys (demand_of figures.now) (supply_of figures.now) result.limit) (marginal_group S.Side.buys result.limit orders.now) }
-        ensures wide { length result.shares ≡ most_orders }
-        ensures next { result.next ≡ 0 }
+        ensures limit { result.limit ≡ margin_tick S.Side.buys (demand_of figures.now) (supply_of figures.now) }
+        ensures shares { result.shares ≡ R.SharingRule.meaning (figures_volume figures.now - ahead_of S.Side.buys (demand_of figures.now) (supply_of figures.now) result.limit) (marginal_group S.Side.buys result.limit orders.now) }
     {
-        let limit = S::margin(figures, volume);
-        let amount = volume.saturating_sub(S::ahead(figures, limit));
-        let mut shares = [0; MOST_ORDERS];
-        let count = gather::<S>(orders, limit.value, &mut shares);
-        sharing.share(amount, &mut shares[0..count]);
+        let limit = S::margin(figures);
+        let amount = figures.volume().saturating_sub(S::ahead(figures, limit));
+        let mut shares = gather::<S>(orders, limit.value());
+        sharing.share(amount, shares.as_mut_slice());
         Margin {
-            limit: limit.value,
-            shares,
-            next: 0,
+            limit: limit.value(),
+            shares: shares.into_iter(),
         }
     }
 
-    /// What the order of a quote gets; its share at the margin is then gone.
-    fn grant<S: Side, Q: Quote>(&mut self, quote: &Q) -> u32
-        requires { self.old.next < length self.old.shares }
-        ensures quantity { result ≡ granted S.Side.buys self.old (Q.Quote.limit quote.now) (Q.Quote.left quote.now) }
-        ensures after { self.new ≡ passed (Q.Quote.limit quote.now) self.old }
+    /// What an order of the side gets; its share at the margin is then gone.
+    fn grant<S: Side>(&mut self, order: &Order) -> u32
+        ensures quantity { result ≡ granted S.Side.buys self.old order.now.limit order.now.left }
+        ensures after { self.new ≡ passed order.now.limit self.old }
     {
-        let limit = quote.limit();
-        if limit == self.limit {
-            let share = self.shares[self.next];
-            self.next += 1;
-            return share;
-        }
-        if S::is_better(limit, self.limit) {
-            quote.left()
+        if order.limit == self.limit {
+            self.shares.next().unwrap_or(0)
+        } else if S::is_better(order.limit, self.limit) {
+            order.left
         } else {
             0
         }
@@ -70,40 +55,21 @@ impl Margin {
 fn stands_at<S: RoundSide>(order: &Order, limit: u16) -> bool
     ensures { result ≡ marginal S.Side.buys limit order.now }
 {
-    match order.life {
-        Life::Standing => S::has(order) && order.limit == limit,
-        _ => false,
-    }
+    order.life == Life::Standing && order.side == S::side() && order.limit == limit
 }
 
-/// Writes down what is left of each order that stands on a side at a limit, earliest first, and counts them.
-fn gather<S: RoundSide>(orders: &[Order], limit: u16, group: &mut [u32]) -> usize
-    requires { length orders.now ≤ length group.old }
-    ensures count { result ≡ length (marginal_group S.Side.buys limit orders.now) }
-    ensures fits { result ≤ length orders.now }
-    ensures group { take result group.new ≡ marginal_group S.Side.buys limit orders.now }
+/// What is left of each order that stands on a side at a limit, earliest first.
+fn gather<S: RoundSide>(orders: &[Order], limit: u16) -> ArrayVec<u32, MOST_ORDERS>
+    requires { length orders.now ≤ most_orders }
+    ensures { result.items ≡ marginal_group S.Side.buys limit orders.now }
 {
-    let mut count = 0;
+    let mut group = ArrayVec::new();
     for order in orders {
         if stands_at::<S>(order, limit) {
-            group[count] = order.left;
-            count += 1;
+            group.push(order.left);
         }
     }
-    count
-}
-
-/// The quote of an order of a side.
-fn quote<S: Side>(order: &Order) -> LimitQuote<S, Continuous>
-    ensures limit { result.order.limit ≡ order.now.limit }
-    ensures left { result.order.left ≡ order.now.left }
-{
-    LimitQuote::<S, Continuous>::make(&OrderFields {
-        number: order.number,
-        limit: order.limit,
-        placed: order.placed,
-        left: order.left,
-    })
+    group
 }
 
 /// The margins of both sides.
@@ -115,36 +81,24 @@ pub(crate) struct Margins {
 
 impl Margins {
     /// The margins of these orders, where each side gets the volume.
-    pub(crate) fn new<R: SharingRule>(
-        orders: &[Order],
-        figures: &Figures,
-        volume: u64,
-        sharing: &R,
-    ) -> Margins
+    pub(crate) fn new<R: SharingRule>(orders: &[Order], figures: &Figures, sharing: &R) -> Margins
         requires { length orders.now ≤ most_orders }
-        ensures starts { Starts result }
-        ensures made { MadeBy R.SharingRule.meaning (demand_of figures.now) (supply_of figures.now) volume orders.now result }
+        ensures { MadeBy R.SharingRule.meaning (demand_of figures.now) (supply_of figures.now) orders.now result }
     {
         Margins {
-            buys: Margin::new::<Buying, R>(orders, figures, volume, sharing),
-            sells: Margin::new::<Selling, R>(orders, figures, volume, sharing),
+            buys: Margin::new::<Buying, R>(orders, figures, sharing),
+            sells: Margin::new::<Selling, R>(orders, figures, sharing),
         }
     }
 
     /// What an order gets at its turn. Only a standing order gets anything.
     pub(crate) fn grant(&mut self, order: &Order) -> u32
-        requires buys { self.old.buys.next < length self.old.buys.shares }
-        requires sells { self.old.sells.next < length self.old.sells.shares }
         ensures quantity { result ≡ grant_of self.old order.now }
         ensures after { self.new ≡ turned self.old order.now }
     {
         match (order.life, order.side) {
-            (Life::Standing, OrderSide::Buy) => self
-                .buys
-                .grant::<Buying, LimitQuote<Buying, Continuous>>(&quote(order)),
-            (Life::Standing, OrderSide::Sell) => self
-                .sells
-                .grant::<Selling, LimitQuote<Selling, Continuous>>(&quote(order)),
+            (Life::Standing, OrderSide::Buy) => self.buys.grant::<Buying>(order),
+            (Life::Standing, OrderSide::Sell) => self.sells.grant::<Selling>(order),
             _ => 0,
         }
     }

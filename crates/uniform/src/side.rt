@@ -1,11 +1,10 @@
 //! A side of a round: which orders it has, and what it reads of demand and supply.
 ghost use Rattle.std.specs.Prelude.{◌≡◌, nat_le};
-ghost use Rattle.curves.specs.Orders.{on};
 ghost use Rattle.ticks.specs.Seen.{demand_of, supply_of};
-ghost use Rattle.orders.specs.Orders.{bid_of};
-ghost use Rattle.uniform.specs.Margins.{margin_tick, ahead_of};
+ghost use Rattle.orders.specs.Orders.{buys};
+ghost use Rattle.uniform.specs.Margins.{figures_volume, open_at, margin_tick, ahead_of};
 
-use orders::order::{Order, Side as OrderSide};
+use orders::order::Side as OrderSide;
 use ranking::orders::{Buying, Selling, Side};
 use ticks::figures::Figures;
 use ticks::search::{TickTest, highest_tick, lowest_tick};
@@ -13,83 +12,74 @@ use ticks::tick::{HIGHEST, Tick};
 
 /// A side of a round. What differs between buys and sells stands here; all else is written once.
 pub(crate) trait RoundSide: Side {
-    /// Whether the order is on this side.
-    fn has(order: &Order) -> bool
-        ensures { result ≡ on Self.Side.buys (bid_of order.now) };
-
-    /// The limit at which a volume runs out: the side's best tick with as much open.
-    fn margin(figures: &Figures, volume: u64) -> Tick
-        ensures { result.value ≡ margin_tick Self.Side.buys (demand_of figures.now) (supply_of figures.now) volume };
+    /// The side of its orders.
+    fn side() -> OrderSide
+        ensures { buys result ≡ Self.Side.buys };
 
     /// What is open at better limits.
     fn ahead(figures: &Figures, limit: Tick) -> u64
         ensures { result ≡ ahead_of Self.Side.buys (demand_of figures.now) (supply_of figures.now) limit.value };
+
+    /// The limit at which the volume runs out: the side's best tick with as much open.
+    fn margin(figures: &Figures) -> Tick
+        ensures { result.value ≡ margin_tick Self.Side.buys (demand_of figures.now) (supply_of figures.now) };
 }
 
-/// Demand at a tick is at least the volume.
+/// As much as the volume is open on a side. No closure stands here: a public function would have to require that it
+/// may be called.
 #[derive(Drop)]
-struct Demanded<'a> {
+struct OpenEnough<'a> {
     figures: &'a Figures,
-    volume: u64,
+    side: OrderSide,
 }
 
-impl<'a> TickTest for Demanded<'a> {
-    ghost passing = { λ t p. nat_le t.volume (demand_of t.figures.now p) };
+impl<'a> TickTest for OpenEnough<'a> {
+    ghost passing = { λ t p. nat_le (figures_volume t.figures.now) (open_at (buys t.side) (demand_of t.figures.now) (supply_of t.figures.now) p) };
 
     fn passes(&self, tick: Tick) -> bool {
-        self.volume <= self.figures.demand_at(tick)
-    }
-}
-
-/// Supply at a tick is at least the volume.
-#[derive(Drop)]
-struct Supplied<'a> {
-    figures: &'a Figures,
-    volume: u64,
-}
-
-impl<'a> TickTest for Supplied<'a> {
-    ghost passing = { λ t p. nat_le t.volume (supply_of t.figures.now p) };
-
-    fn passes(&self, tick: Tick) -> bool {
-        self.volume <= self.figures.supply_at(tick)
+        let open = match self.side {
+            OrderSide::Buy => self.figures.demand_at(tick),
+            OrderSide::Sell => self.figures.supply_at(tick),
+        };
+        self.figures.volume() <= open
     }
 }
 
 impl RoundSide for Buying {
-    fn has(order: &Order) -> bool {
-        match order.side {
-            OrderSide::Buy => true,
-            OrderSide::Sell => false,
-        }
-    }
-
-    fn margin(figures: &Figures, volume: u64) -> Tick {
-        Tick {
-            value: highest_tick(&Demanded { figures, volume }),
-        }
+    fn side() -> OrderSide {
+        OrderSide::Buy
     }
 
     fn ahead(figures: &Figures, limit: Tick) -> u64 {
         figures.demand_above(limit)
     }
+
+    fn margin(figures: &Figures) -> Tick {
+        Tick {
+            value: highest_tick(&OpenEnough {
+                figures,
+                side: OrderSide::Buy,
+            }),
+        }
+    }
 }
 
 impl RoundSide for Selling {
-    fn has(order: &Order) -> bool {
-        match order.side {
-            OrderSide::Buy => false,
-            OrderSide::Sell => true,
-        }
-    }
-
-    fn margin(figures: &Figures, volume: u64) -> Tick {
-        Tick {
-            value: lowest_tick(&Supplied { figures, volume }).min(HIGHEST),
-        }
+    fn side() -> OrderSide {
+        OrderSide::Sell
     }
 
     fn ahead(figures: &Figures, limit: Tick) -> u64 {
         figures.supply_below(limit)
+    }
+
+    fn margin(figures: &Figures) -> Tick {
+        Tick {
+            value: lowest_tick(&OpenEnough {
+                figures,
+                side: OrderSide::Sell,
+            })
+            .min(HIGHEST),
+        }
     }
 }

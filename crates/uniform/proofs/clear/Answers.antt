@@ -15,15 +15,11 @@ trade_all-requires g c =
     let figures = c.figures-figures.result in
     let same = c.placed-2.ensures.is in
     let sound = subst (λ (z : List Order). Sound z (length z)) same c.placed-2.ensures.sound in
-    let starts = c.new-margins.ensures.starts in
     let share = g.S.SharingRule.meaning in
     let made = made_seen os figures.demand figures.supply c.figures-figures.ensures.demand c.figures-figures.ensures.supply
-    share c.volume-volume.result c.placed-2.result.now c.new-margins.result c.volume-volume.ensures same c.new-margins.ensures.made in
-    record {
-      starts = starts;
-      ready = round_ready share g.met.S.SharingRule.shares os sound c.new-margins.result starts made s refl
-          (ap (λ (z : Session). z.lines) c.clear_lines.ensures) (omega (arith, ap length same, c.placed-2.ensures.count));
-    }
+    share c.placed-2.result.now c.new-margins.result same c.new-margins.ensures in
+    round_ready share g.met.S.SharingRule.shares os sound c.new-margins.result made s refl
+    (ap (λ (z : Session). z.lines) c.clear_lines.ensures) (omega (arith, ap length same, c.placed-2.ensures.count))
 
 pub returns : goal.returns
 returns g c =
@@ -38,15 +34,14 @@ returns g c =
     let sound = subst (λ (z : List Order). Sound z (length z)) same c.placed-2.ensures.sound in
     let price = g.P.PriceRule.meaning in
     let share = g.S.SharingRule.meaning in
-    let v = c.volume-volume.result in
     let p = c.price-tick.result.value in
     let r = c.args.reference.value in
     let made = made_seen os figures.demand figures.supply wanted offered
-    share v c.placed-2.result.now c.new-margins.result c.volume-volume.ensures same c.new-margins.ensures.made in
+    share c.placed-2.result.now c.new-margins.result same c.new-margins.ensures in
     let some : ltb 0 (uniform_volume os) ≡ true =
     ap (λ (z : List Order). ltb 0 (uniform_volume z)) (sym c.placed.ensures.is) ∙ sym c.if-not-is_crossed.ensures in
     let is : p ≡ uniform_price price r os = asked os figures.demand figures.supply wanted offered price r p some c.price-tick.ensures in
-    let V : v ≡ uniform_volume os = volume_seen os figures.demand figures.supply wanted offered v c.volume-volume.ensures in
+    let V : c.volume.result ≡ uniform_volume os = c.volume.ensures ∙ volume_seen os figures.demand figures.supply wanted offered in
     record {
       answer =
           ap (λ (z : ℕ). (z, c.value.result)) V
@@ -55,5 +50,5 @@ returns g c =
       after =
           c.rank_lines.ensures
           ∙ ap with_ranked_lines c.trade_all.ensures
-          ∙ round_settles price share g.met.S.SharingRule.shares r p before s c.new-margins.result c.clear_lines.ensures sound c.new-margins.ensures.starts made some is;
+          ∙ round_settles price share g.met.S.SharingRule.shares r p before s c.new-margins.result c.clear_lines.ensures sound made some is;
     }

@@ -1,5 +1,4 @@
-use Rattle.std.proofs.Common.{◌≡◌, ℕ, ◌<◌, true, false, cond, List, length, get_or, take, sym, ap, ◌∙◌, arith}
-use Rattle.std.proofs.lemmas.List.{take_all}
+use Rattle.std.proofs.Common.{◌≡◌, ℕ, ◌<◌, cond, List, length, get_or, sym, ap, ◌∙◌, arith}
 use Rattle.std.proofs.lemmas.List.Sums.{fold_more}
 use Rattle.std.proofs.lemmas.List.FromFn.{get_or-map-range_with_len}
 use Rattle.orders.specs.declared.order.Order.{Order}
@@ -7,10 +6,8 @@ use Rattle.orders.specs.Orders.{at, no_order}
 use Rattle.orders.specs.Settlement.{Session}
 use Rattle.orders.specs.Held.{session_of}
 use Rattle.orders.specs.Changes.{can_trade, traded}
-use Rattle.steps.specs.Uniform.{lines_at}
 use Rattle.uniform.specs.declared.margin.Margins.{Margins}
-use Rattle.uniform.specs.Margins.{grant_of, turned, margins_at, grants, posted_lines, traded_to}
-use Rattle.uniform.proofs.Groups.{share_left}
+use Rattle.uniform.specs.Margins.{grant_of, turned, margins_at, grants, traded_to}
 use Rattle.uniform.proofs.Rounds.{orders_stay, order_now, traded_more}
 use Rattle.uniform.proofs.trade_all.Goals as goal
 
@@ -24,18 +21,6 @@ same_count c =
 
 pub bounds-placed-place : goal.bounds-placed-place
 bounds-placed-place c = omega (arith, same_count c, ap length c.placed-count.ensures.is)
-
-pub grant-quantity-requires : goal.grant-quantity-requires
-grant-quantity-requires c =
-    let s = session_of c.args.tables.now in
-    let i = c.loop-place.place in
-    let lt : i < length s.orders = omega (arith, ap length c.placed-count.ensures.is) in
-    let left = share_left c.args.margins s.orders i c.requires.starts lt c.requires.ready.few in
-    let e = c.loop-place.invariant.1 in
-    record {
-      buys = omega (arith, left true, ap (λ (z : Margins). z.buys.next) e, ap (λ (z : Margins). length z.buys.shares) e);
-      sells = omega (arith, left false, ap (λ (z : Margins). z.sells.next) e, ap (λ (z : Margins). length z.sells.shares) e);
-    }
 
 pub loop-place-preserved : goal.loop-place-preserved
 loop-place-preserved c =
@@ -51,7 +36,7 @@ loop-place-preserved c =
     let order : get_or c.placed.result.now i no_order ≡ at os i =
     ap (λ (z : List Order). get_or z i no_order) c.placed.ensures.is
     ∙ ap (λ (z : Session). at z.orders i) c.loop-place.invariant.0
-    ∙ order_now p s qs c.requires.ready i lt in
+    ∙ order_now p s qs c.requires i lt in
     let q = c.grant-quantity.result in
     let given : q ≡ get_or qs i 0 =
     c.grant-quantity.ensures.quantity
@@ -64,22 +49,9 @@ loop-place-preserved c =
       c.trade.ensures.after
           ∙ ap (λ (z : Session). cond r (traded i q p z) z) c.loop-place.invariant.0
           ∙ ap (λ (z : ℕ). cond r (traded i z p t) t) given
-          ∙ traded_more p s qs c.requires.ready i lt r can,
+          ∙ traded_more p s qs c.requires i lt r can,
       c.grant-quantity.ensures.after
           ∙ ap (λ (o : Order). turned c.loop-place.margins o) order
           ∙ ap (λ (z : Margins). turned z (at os i)) c.loop-place.invariant.1
           ∙ sym (fold_more turned ms os i no_order lt),
     )
-
-pub returns : goal.returns
-returns c =
-    let s = session_of c.args.tables.now in
-    let os = s.orders in
-    let p = c.args.price.value in
-    let i = c.loop-place.place in
-    let qs = grants c.args.margins os in
-    let all : take i os ≡ os = take_all i os (omega (arith, ap length c.placed-count.ensures.is)) in
-    let every : take i qs ≡ qs = take_all i qs (omega (arith, ap length c.placed-count.ensures.is, c.requires.ready.whole)) in
-    c.loop-place.invariant.0
-    ∙ ap (λ z. posted_lines s (lines_at p 0 z (take i qs))) all
-    ∙ ap (λ z. posted_lines s (lines_at p 0 os z)) every

@@ -4,6 +4,4 @@ use Rattle.uniform.proofs.margin.gather.Given as goal
 
 abbrev pub invariant-loop-order : goal.invariant-loop-order
 invariant-loop-order g l =
-    (l.count ≡ length (marginal_group g.S.Side.buys l.limit (take l.order-index l.orders)))
-    × (l.count ≤ l.order-index)
-    × (take l.count l.group ≡ marginal_group g.S.Side.buys l.limit (take l.order-index l.orders))
+    (l.group.items ≡ marginal_group g.S.Side.buys l.limit (take l.order-index l.orders)) × (length l.group.items ≤ l.order-index)
