@@ -37,12 +37,13 @@ marks_more seen marks l n lt h m b =
     ]
 
 -- and so after the first i + 1 of some lines
-pub marks_next : (seen ls : List Line) (i : ℕ) (marks : List Bool) → i < length ls → length marks ≡ member_places → (get_or ls i no_line).member < member_places →
-    Marks (seen ++ take i ls) marks → Marks (seen ++ take (i + 1) ls) (set marks (get_or ls i no_line).member true)
-marks_next seen ls i marks lt n b h =
+pub marks_next : (seen ls : List Line) (i m : ℕ) (marks : List Bool) → m ≡ (get_or ls i no_line).member → i < length ls → length marks ≡ member_places → (get_or ls i no_line).member < member_places →
+    Marks (seen ++ take i ls) marks → Marks (seen ++ take (i + 1) ls) (set marks m true)
+marks_next seen ls i m marks is lt n b h =
     let l = get_or ls i no_line in
     let e : (seen ++ take i ls) ++ (l ∷ []) ≡ seen ++ take (i + 1) ls = append_assoc seen (take i ls) (l ∷ []) ∙ ap (λ x. seen ++ x) (sym (take_more ls i no_line lt)) in
-    subst (λ (x : List Line). Marks x (set marks l.member true)) e (marks_more (seen ++ take i ls) marks l n b h)
+    let more : Marks (seen ++ take (i + 1) ls) (set marks l.member true) = subst (λ (x : List Line). Marks x (set marks l.member true)) e (marks_more (seen ++ take i ls) marks l n b h) in
+    subst (λ x. Marks (seen ++ take (i + 1) ls) (set marks x true)) (sym is) more
 
 pub marks_all : (seen ls : List Line) (i : ℕ) (marks : List Bool) → length ls ≤ i → Marks (seen ++ take i ls) marks → Marks (seen ++ ls) marks
 marks_all seen ls i marks h m = subst (λ (x : List Line). Marks (seen ++ x) marks) (take_all i ls h) m

@@ -125,24 +125,6 @@ pub batch_place_told : (k : ℕ) (w : Way) (s t : Session) (a : Ask) (x : Accept
 batch_place_told k w s t a x sheet none e =
     told_lines k w s t a x sheet sheet e (subst (λ (ls : List Line). Grown (line_rows ls) ls sheet sheet) (sym none) (grown_none sheet))
 
--- a refused place
-pub place_no_told : (k : ℕ) (w : Way) (s t : Session) (a : Ask) (q : Refusal) (before after : Sheet) → ◌≡◌ {A = Result Acceptance Refusal × Session} (Err q, t) (place w a s) →
-    Grown (no_row k q) [] before after → Told k (step w s (Place a)) before after
-place_no_told k w s t a q before after e g =
-    subst (λ (r : Result Acceptance Refusal × Session). Told k (told Accepted r.0, r.1) before after) e g
-
--- a row alone
-pub row_told : (row : List ℕ) (before after : Sheet) → vec_items after.text ≡ vec_items before.text ++ row → after.traded ≡ before.traded → Grown row [] before after
-row_told row before after e m = record {
-  text = e;
-  marks = λ seen h. subst (λ (x : List Line). Marks x after.traded) (sym (append-nil seen)) (subst (λ (x : List Bool). Marks seen x) (sym m) h);
-}
-
--- the lines of a continuous place
-pub place_lines_told : (k : ℕ) (w : Way) (s t : Session) (a : Ask) (x : Acceptance) (ls : List Line) (before after : Sheet) →
-    ◌≡◌ {A = Result Acceptance Refusal × Session} (Ok x, t) (place w a s) → ls ≡ t.lines → Grown (line_rows ls) ls before after → Told k (step w s (Place a)) before after
-place_lines_told k w s t a x ls before after e i g = told_lines k w s t a x before after e (subst (λ (l : List Line). Grown (line_rows l) l before after) i g)
-
 -- a round that was awarded
 pub round_told : (w : Way) (s t : Session) (o : Outcome) (k : ℕ) (a b : Sheet) → ◌≡◌ {A = Outcome × Session} (o, t) (round w s) →
     Grown (round_row o ++ line_rows t.lines) t.lines a b → Told k (step w s Round) a b
