@@ -1,5 +1,5 @@
 -- A sheet grows line by line.
-use Rattle.std.proofs.Common.{◌≡◌, ℕ, suc, ◌+◌, ◌-◌, ◌<◌, ◌≤◌, Bool, true, false, ◌||◌, eqb, ◌≢◌, List, [], ◌∷◌, ◌++◌, length, get_or, take, drop, set, replicate, vec_items, sym, refl, ap, ◌∙◌, subst, inl, inr, append_assoc, append-nil, arith}
+use Rattle.std.proofs.Common.{◌≡◌, ℕ, suc, ◌+◌, ◌-◌, ◌<◌, ◌≤◌, Bool, true, false, ◌||◌, eqb, ◌≢◌, List, [], ◌∷◌, ◌++◌, length, get_or, take, drop, set, replicate, sym, refl, ap, ◌∙◌, subst, inl, inr, append_assoc, append-nil, arith}
 use Rattle.std.proofs.lemmas.List.{get_or-replicate, get_or-set_same, get_or-set_other, take_more, take_all, at_drop_more, at_drop_all}
 use Rattle.std.proofs.lemmas.Bool.{cases_eq, eq-eqb, ne_eqb, or_right}
 use Rattle.orders.specs.declared.order.Line.{Line}
@@ -9,9 +9,8 @@ use Rattle.orders.specs.Members.{has_line}
 use Rattle.orders.proofs.Marks.{has_push}
 use Rattle.sheets.specs.Rows.{line_row, line_rows}
 use Rattle.orders.specs.declared.order.Account.{Account}
-use Rattle.sheets.specs.declared.growing.Sheet.{Sheet}
 use Rattle.sheets.specs.Sheet.{account_piece, accounts_from}
-use Rattle.sheets.specs.Growing.{Marks, marked, Grown}
+use Rattle.sheets.specs.Growing.{Marks, marked}
 
 pub marks_none : Marks [] (replicate member_places false)
 marks_none m h = get_or-replicate member_places m false false h
@@ -61,16 +60,6 @@ rows_end ls i bs w h inv =
     let s = at_drop_all line_rows ls i h in
     let u = append-nil bs in
     cc
-
--- a row, and then lines
-pub row_and_lines : (ls ms : List Line) (row : List ℕ) (a b c : Sheet) → ls ≡ ms → vec_items b.text ≡ vec_items a.text ++ row → b.traded ≡ a.traded →
-    Grown (line_rows ls) ls b c → Grown (row ++ line_rows ms) ms a c
-row_and_lines ls ms row a b c e t m g =
-    let p : Grown (line_rows ms) ms b c = subst (λ (x : List Line). Grown (line_rows x) x b c) e g in
-    record {
-      text = p.text ∙ ap (λ x. x ++ line_rows ms) t ∙ append_assoc (vec_items a.text) row (line_rows ms);
-      marks = λ seen h. p.marks seen (subst (λ (x : List Bool). Marks seen x) (sym m) h);
-    }
 
 -- one more member
 pub accounts_more : (f f' f'' : List Bool) (acs : List Account) (m : ℕ) (bs bs' w : List ℕ) → m < 64 → f ≡ f'' → f' ≡ f →

@@ -2,7 +2,6 @@
 use Rattle.std.proofs.Common.{◌≡◌, ℕ, ◌<◌, ◌≤◌, Bool, true, false, cond, ◌&&◌, ◌||◌, eqb, ltb, List, [], ◌∷◌, map, drop, Some, None, Ok, Err, Option, Result, sym, ap, ◌∙◌, subst, inl, inr, arith}
 use Rattle.std.specs.List.{AllByRecursion}
 use Rattle.std.proofs.lemmas.Bool.{ne_eqb, eq-eqb, ltb-true, le-ltb, or_cases, and_parts, cases_eq, false_from_ne_true, true≢false}
-use Rattle.curves.specs.Sharing.{SharingMeaning}
 use Rattle.curves.specs.Pricing.{PriceMeaning}
 use Rattle.rules.specs.Prices.{crossing, principles}
 use Rattle.rules.specs.Sharing.{earliest_first, largest_first, pro_rata}
@@ -16,12 +15,9 @@ use Rattle.book.specs.Format.{way, kind, header_of, entry_of}
 use Rattle.book.specs.Questions.{header_questions, record_questions, first_no, first_fault}
 use Rattle.book.specs.Reading.{words, entries, with_records, with_header, read_book}
 use Rattle.book.specs.Laws.{Passes, Faultless}
-use Rattle.steps.specs.declared.call.Call.{Call}
 use Rattle.book.specs.declared.values.Entry.TheVariants.{Round}
 use Rattle.steps.specs.Ways.{Way, Uniform, is_continuous}
-use Rattle.history.specs.Histories.{run}
 use Rattle.sheets.specs.Calls.{sharing_of, paired_at, continuous_way, way_of, is_round, NoRounds, Suits}
-use Rattle.sheets.specs.Sheet.{history_text}
 
 -- ---- no rounds in a continuous book
 
