@@ -1,5 +1,5 @@
 -- A sheet grows line by line.
-use Rattle.std.proofs.Common.{◌≡◌, ℕ, suc, ◌+◌, ◌-◌, ◌<◌, ◌≤◌, Bool, true, false, ◌||◌, eqb, ◌≢◌, List, [], ◌∷◌, ◌++◌, length, get_or, take, drop, set, replicate, vec_items, sym, refl, ap, ◌∙◌, subst, inl, inr, append_assoc, append-nil, arith}
+use Rattle.std.proofs.Common.{◌≡◌, ℕ, suc, ◌+◌, ◌-◌, ◌<◌, ◌≤◌, Bool, true, false, ◌||◌, eqb, ◌≢◌, List, [], ◌∷◌, ◌++◌, length, get_or, take, drop, set, replicate, sym, refl, ap, ◌∙◌, subst, inl, inr, append_assoc, append-nil, arith}
 use Rattle.std.proofs.lemmas.List.{get_or-replicate, get_or-set_same, get_or-set_other, take_more, take_all, at_drop_more, at_drop_all}
 use Rattle.std.proofs.lemmas.Bool.{cases_eq, eq-eqb, ne_eqb, or_right}
 use Rattle.orders.specs.declared.order.Line.{Line}
@@ -9,9 +9,8 @@ use Rattle.orders.specs.Members.{has_line}
 use Rattle.orders.proofs.Marks.{has_push}
 use Rattle.sheets.specs.Rows.{line_row, line_rows}
 use Rattle.orders.specs.declared.order.Account.{Account}
-use Rattle.sheets.specs.declared.growing.Sheet.{Sheet}
 use Rattle.sheets.specs.Sheet.{account_piece, accounts_from}
-use Rattle.sheets.specs.Growing.{Marks, marked, Grown}
+use Rattle.sheets.specs.Growing.{Marks, marked}
 
 pub marks_none : Marks [] (replicate member_places false)
 marks_none m h = get_or-replicate member_places m false false h
@@ -37,12 +36,13 @@ marks_more seen marks l n lt h m b =
     ]
 
 -- and so after the first i + 1 of some lines
-pub marks_next : (seen ls : List Line) (i : ℕ) (marks : List Bool) → i < length ls → length marks ≡ member_places → (get_or ls i no_line).member < member_places →
-    Marks (seen ++ take i ls) marks → Marks (seen ++ take (i + 1) ls) (set marks (get_or ls i no_line).member true)
-marks_next seen ls i marks lt n b h =
+pub marks_next : (seen ls : List Line) (i m : ℕ) (marks : List Bool) → m ≡ (get_or ls i no_line).member → i < length ls → length marks ≡ member_places → (get_or ls i no_line).member < member_places →
+    Marks (seen ++ take i ls) marks → Marks (seen ++ take (i + 1) ls) (set marks m true)
+marks_next seen ls i m marks is lt n b h =
     let l = get_or ls i no_line in
     let e : (seen ++ take i ls) ++ (l ∷ []) ≡ seen ++ take (i + 1) ls = append_assoc seen (take i ls) (l ∷ []) ∙ ap (λ x. seen ++ x) (sym (take_more ls i no_line lt)) in
-    subst (λ (x : List Line). Marks x (set marks l.member true)) e (marks_more (seen ++ take i ls) marks l n b h)
+    let more : Marks (seen ++ take (i + 1) ls) (set marks l.member true) = subst (λ (x : List Line). Marks x (set marks l.member true)) e (marks_more (seen ++ take i ls) marks l n b h) in
+    subst (λ x. Marks (seen ++ take (i + 1) ls) (set marks x true)) (sym is) more
 
 pub marks_all : (seen ls : List Line) (i : ℕ) (marks : List Bool) → length ls ≤ i → Marks (seen ++ take i ls) marks → Marks (seen ++ ls) marks
 marks_all seen ls i marks h m = subst (λ (x : List Line). Marks (seen ++ x) marks) (take_all i ls h) m
@@ -60,16 +60,6 @@ rows_end ls i bs w h inv =
     let s = at_drop_all line_rows ls i h in
     let u = append-nil bs in
     cc
-
--- a row, and then lines
-pub row_and_lines : (ls ms : List Line) (row : List ℕ) (a b c : Sheet) → ls ≡ ms → vec_items b.text ≡ vec_items a.text ++ row → b.traded ≡ a.traded →
-    Grown (line_rows ls) ls b c → Grown (row ++ line_rows ms) ms a c
-row_and_lines ls ms row a b c e t m g =
-    let p : Grown (line_rows ms) ms b c = subst (λ (x : List Line). Grown (line_rows x) x b c) e g in
-    record {
-      text = p.text ∙ ap (λ x. x ++ line_rows ms) t ∙ append_assoc (vec_items a.text) row (line_rows ms);
-      marks = λ seen h. p.marks seen (subst (λ (x : List Bool). Marks seen x) (sym m) h);
-    }
 
 -- one more member
 pub accounts_more : (f f' f'' : List Bool) (acs : List Account) (m : ℕ) (bs bs' w : List ℕ) → m < 64 → f ≡ f'' → f' ≡ f →

@@ -1,25 +1,19 @@
 -- A sheet tells the history so far.
-use Rattle.std.proofs.Common.{◌≡◌, ℕ, zero, suc, ◌+◌, ◌<◌, ◌≤◌, Bool, cond, List, [], ◌∷◌, ◌++◌, length, Ok, Err, vec_items, fold, Result, sym, refl, ap, ◌∙◌, subst, append_assoc, append-nil, arith, length-append}
+use Rattle.std.proofs.Common.{◌≡◌, ℕ, zero, suc, ◌+◌, ◌<◌, ◌≤◌, Bool, cond, List, [], ◌∷◌, ◌++◌, length, vec_items, fold, sym, refl, ap, ◌∙◌, subst, append_assoc, append-nil, arith, length-append}
 use Rattle.std.specs.List.{flat_map}
-use Rattle.orders.specs.declared.order.Ask.{Ask}
 use Rattle.orders.specs.declared.order.Line.{Line}
 use Rattle.orders.specs.declared.order.Account.{Account}
 use Rattle.orders.specs.Orders.{last_member}
 use Rattle.orders.specs.Settlement.{Session, member_places, account, opening}
 use Rattle.orders.specs.Members.{has_line}
 use Rattle.steps.specs.declared.call.Call.{Call}
-use Rattle.steps.specs.declared.call.Call.TheVariants.{Place, Round}
-use Rattle.steps.specs.declared.call.Outcome.{Outcome}
-use Rattle.steps.specs.declared.call.Acceptance.{Acceptance}
-use Rattle.steps.specs.declared.call.Answer.TheVariants.{Accepted}
-use Rattle.steps.specs.declared.refusal.Refusal.{Refusal}
 use Rattle.steps.specs.Ways.{Way}
-use Rattle.steps.specs.Calls.{place, told, step, round}
+use Rattle.steps.specs.Calls.{told, step}
 use Rattle.history.specs.Histories.{Event, History, event_of, called, run, all_lines}
 use Rattle.sheets.specs.declared.growing.Sheet.{Sheet}
-use Rattle.sheets.specs.Rows.{no_row, round_row, line_rows, account_row}
+use Rattle.sheets.specs.Rows.{account_row}
 use Rattle.sheets.specs.Sheet.{answer_text, events_text, account_piece, accounts_from, accounts_text, history_text}
-use Rattle.sheets.specs.Growing.{Marks, marked, Grown, Told}
+use Rattle.sheets.specs.Growing.{Marks, marked, Told}
 
 events_more : (k : ℕ) (es : List Event) (e : Event) → events_text k (es ++ (e ∷ [])) ≡ events_text k es ++ answer_text (k + length es) e.answer e.lines
 events_more k [] e =
@@ -105,46 +99,3 @@ so_far_whole w v period s₀ s cs₀ cs text whole traded k e o none f t =
     so_far_end w s₀ s cs₀ text whole traded k (subst (λ (x : List Call). SoFar w s₀ s cs₀ x text traded k) none f) t
     ∙ ap (λ (x : Way). history_text (fold (called x) (record { session = s₀; events = [] }) cs₀)) e
     ∙ ap (λ (x : Session). history_text (fold (called v) (record { session = x; events = [] }) cs₀)) o
-
--- ---- what each call tells
-
-pub grown_none : (a : Sheet) → Grown [] [] a a
-grown_none a = record {
-  text = sym (append-nil (vec_items a.text));
-  marks = λ seen h. subst (λ (x : List Line). Marks x a.traded) (sym (append-nil seen)) h;
-}
-
-told_lines : (k : ℕ) (w : Way) (s t : Session) (a : Ask) (x : Acceptance) (before after : Sheet) → ◌≡◌ {A = Result Acceptance Refusal × Session} (Ok x, t) (place w a s) →
-    Grown (line_rows t.lines) t.lines before after → Told k (step w s (Place a)) before after
-told_lines k w s t a x before after e g =
-    subst (λ (r : Result Acceptance Refusal × Session). Told k (told Accepted r.0, r.1) before after) e g
-
--- in a batch session a place makes no lines
-pub batch_place_told : (k : ℕ) (w : Way) (s t : Session) (a : Ask) (x : Acceptance) (sheet : Sheet) → t.lines ≡ [] →
-    ◌≡◌ {A = Result Acceptance Refusal × Session} (Ok x, t) (place w a s) → Told k (step w s (Place a)) sheet sheet
-batch_place_told k w s t a x sheet none e =
-    told_lines k w s t a x sheet sheet e (subst (λ (ls : List Line). Grown (line_rows ls) ls sheet sheet) (sym none) (grown_none sheet))
-
--- a refused place
-pub place_no_told : (k : ℕ) (w : Way) (s t : Session) (a : Ask) (q : Refusal) (before after : Sheet) → ◌≡◌ {A = Result Acceptance Refusal × Session} (Err q, t) (place w a s) →
-    Grown (no_row k q) [] before after → Told k (step w s (Place a)) before after
-place_no_told k w s t a q before after e g =
-    subst (λ (r : Result Acceptance Refusal × Session). Told k (told Accepted r.0, r.1) before after) e g
-
--- a row alone
-pub row_told : (row : List ℕ) (before after : Sheet) → vec_items after.text ≡ vec_items before.text ++ row → after.traded ≡ before.traded → Grown row [] before after
-row_told row before after e m = record {
-  text = e;
-  marks = λ seen h. subst (λ (x : List Line). Marks x after.traded) (sym (append-nil seen)) (subst (λ (x : List Bool). Marks seen x) (sym m) h);
-}
-
--- the lines of a continuous place
-pub place_lines_told : (k : ℕ) (w : Way) (s t : Session) (a : Ask) (x : Acceptance) (ls : List Line) (before after : Sheet) →
-    ◌≡◌ {A = Result Acceptance Refusal × Session} (Ok x, t) (place w a s) → ls ≡ t.lines → Grown (line_rows ls) ls before after → Told k (step w s (Place a)) before after
-place_lines_told k w s t a x ls before after e i g = told_lines k w s t a x before after e (subst (λ (l : List Line). Grown (line_rows l) l before after) i g)
-
--- a round that was awarded
-pub round_told : (w : Way) (s t : Session) (o : Outcome) (k : ℕ) (a b : Sheet) → ◌≡◌ {A = Outcome × Session} (o, t) (round w s) →
-    Grown (round_row o ++ line_rows t.lines) t.lines a b → Told k (step w s Round) a b
-round_told w s t o k a b e g =
-    subst (λ (r : Outcome × Session). Grown (round_row r.0 ++ line_rows r.1.lines) r.1.lines a b) e g

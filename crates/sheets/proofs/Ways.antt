@@ -1,8 +1,7 @@
 -- The way of a book, by the numbers of its header.
 use Rattle.std.proofs.Common.{◌≡◌, ℕ, ◌<◌, ◌≤◌, Bool, true, false, cond, ◌&&◌, ◌||◌, eqb, ltb, List, [], ◌∷◌, map, drop, Some, None, Ok, Err, Option, Result, sym, ap, ◌∙◌, subst, inl, inr, arith}
 use Rattle.std.specs.List.{AllByRecursion}
-use Rattle.std.proofs.lemmas.Bool.{ne_eqb, eq-eqb, ltb-true, le-ltb, or_cases, and_parts, cases_eq}
-use Rattle.curves.specs.Sharing.{SharingMeaning}
+use Rattle.std.proofs.lemmas.Bool.{ne_eqb, eq-eqb, ltb-true, le-ltb, or_cases, and_parts, cases_eq, false_from_ne_true, true≢false}
 use Rattle.curves.specs.Pricing.{PriceMeaning}
 use Rattle.rules.specs.Prices.{crossing, principles}
 use Rattle.rules.specs.Sharing.{earliest_first, largest_first, pro_rata}
@@ -16,24 +15,9 @@ use Rattle.book.specs.Format.{way, kind, header_of, entry_of}
 use Rattle.book.specs.Questions.{header_questions, record_questions, first_no, first_fault}
 use Rattle.book.specs.Reading.{words, entries, with_records, with_header, read_book}
 use Rattle.book.specs.Laws.{Passes, Faultless}
-use Rattle.steps.specs.declared.call.Call.{Call}
-use Rattle.steps.specs.Ways.{Way, Uniform}
-use Rattle.history.specs.Histories.{run}
-use Rattle.sheets.specs.Calls.{sharing_of, paired_at, continuous_way, way_of, is_round, NoRounds}
-use Rattle.sheets.specs.Sheet.{history_text}
-
-pub sharing_rest : (n : ℕ) → (n ≡ 0 → ⊥) → (n ≡ 1 → ⊥) → sharing_of n ≡ pro_rata
-sharing_rest n a b = rw (ne_eqb n 0 a, ne_eqb n 1 b)
-
--- a text of one way is that of the same way by other names
-pub text_of_uniform : (price : PriceMeaning) (share : SharingMeaning) (n r r' period : ℕ) (cs : List Call) (text : List ℕ) → r ≡ r' → sharing_of n ≡ share →
-    text ≡ history_text (run (Uniform price share r) period cs) → text ≡ history_text (run (Uniform price (sharing_of n) r') period cs)
-text_of_uniform price share n r r' period cs text e i t =
-    t ∙ ap (λ x. history_text (run (Uniform price share x) period cs)) e ∙ ap (λ x. history_text (run (Uniform price x r') period cs)) (sym i)
-
-pub text_of_way : (v w : Way) (p p' : ℕ) (cs : List Call) (text : List ℕ) → v ≡ w → p ≡ p' →
-    text ≡ history_text (run v p cs) → text ≡ history_text (run w p' cs)
-text_of_way v w p p' cs text e i t = t ∙ ap (λ (x : Way). history_text (run x p cs)) e ∙ ap (λ x. history_text (run w x cs)) i
+use Rattle.book.specs.declared.values.Entry.TheVariants.{Round}
+use Rattle.steps.specs.Ways.{Way, Uniform, is_continuous}
+use Rattle.sheets.specs.Calls.{sharing_of, paired_at, continuous_way, way_of, is_round, NoRounds, Suits}
 
 -- ---- no rounds in a continuous book
 
@@ -85,37 +69,13 @@ no_rounds s h es e f late =
     let w : h.way ≡ way (word s) = ap (λ (x : Header). x.way) p.header in
     subst (λ (x : List Entry). NoRounds x) (sym p.records) (no_round_words (way (word s)) (omega arith) (words (drop 6 s)) f.1)
 
--- ---- the way by its number
+-- only a batch way has rounds
+pub rounds_are_batch : (w : Way) (es : List Entry) → Suits w (Round ∷ es) → is_continuous w ≡ false
+rounds_are_batch w es h = false_from_ne_true (is_continuous w) (λ t. true≢false (h t).0)
 
-pub at_0 : (h : Header) → h.way ≡ 0 → way_of h ≡ Uniform crossing (sharing_of h.sharing) h.reference
-unfolding way_of
-at_0 h e = rw e
-
-pub at_1 : (h : Header) → h.way ≡ 1 → way_of h ≡ Uniform principles (sharing_of h.sharing) h.reference
-unfolding way_of
-at_1 h e = rw e
-
-pub at_2 : (h : Header) → h.way ≡ 2 → way_of h ≡ paired_at buyers_price
-unfolding way_of
-at_2 h e = rw e
-
-pub at_3 : (h : Header) → h.way ≡ 3 → way_of h ≡ paired_at sellers_price
-unfolding way_of
-at_3 h e = rw e
-
-pub at_4 : (h : Header) → h.way ≡ 4 → way_of h ≡ paired_at half_the_sum
-unfolding way_of
-at_4 h e = rw e
-
-pub at_5 : (h : Header) → 5 ≤ h.way → way_of h ≡ continuous_way
-unfolding way_of
-at_5 h l =
-    let a = ne_eqb h.way 0 (omega arith) in
-    let b = ne_eqb h.way 1 (omega arith) in
-    let c = ne_eqb h.way 2 (omega arith) in
-    let d = ne_eqb h.way 3 (omega arith) in
-    let e = ne_eqb h.way 4 (omega arith) in
-    rw (a, b, c, d, e)
+-- what suits a way suits it without the first record
+pub suits_rest : (w v : Way) (e : Entry) (all es : List Entry) → w ≡ v → all ≡ e ∷ es → Suits w all → Suits v es
+suits_rest w v e all es i a h c = (subst NoRounds a (h (ap is_continuous i ∙ c))).1
 
 -- ---- every way of a book
 

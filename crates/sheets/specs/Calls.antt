@@ -17,7 +17,7 @@ use Rattle.orders.specs.declared.order.Kind.{Kind}
 use Rattle.orders.specs.declared.order.Kind.TheVariants.{Normal, FillAndKill, FillOrKill}
 use Rattle.steps.specs.declared.call.Call.{Call}
 use Rattle.steps.specs.declared.call.Call.TheVariants.{Place, Withdraw, Round}
-use Rattle.steps.specs.Ways.{Way, Uniform, Paired, Continuous}
+use Rattle.steps.specs.Ways.{Way, Uniform, Paired, Continuous, is_continuous}
 
 -- 0 earliest first, 1 largest first, 2 pro rata
 abbrev pub sharing_of : ℕ → SharingMeaning
@@ -72,6 +72,10 @@ is_round RoundEntry = true
 -- none of the records is a round
 abbrev pub NoRounds : List Entry → Type 0
 NoRounds es = AllByRecursion (λ (e : Entry). is_round e ≡ false) es
+
+-- a continuous way has no rounds among its records
+abbrev pub Suits : Way → List Entry → Type 0
+Suits w es = is_continuous w ≡ true → NoRounds es
 
 -- the calls of records
 abbrev pub calls_of : List Entry → List Call

@@ -5,7 +5,7 @@ ghost use Rattle.sheets.specs.Calls.{ask_of};
 use book::Placement;
 use orders::order::{Ask, Kind, Side};
 
-/// The ask of a placement.
+/// The ask of a placement. It is no `From`, since both types are of other crates.
 pub(crate) fn ask_of(placement: Placement) -> Ask
     ensures { result ≡ ask_of placement }
 {

@@ -2,91 +2,23 @@
 ghost use Rattle.std.specs.Prelude.{◌≡◌, ℕ, ◌<◌, ◌≤◌, List, length, take, IfOk};
 ghost use Rattle.book.specs.Reading.{entries};
 ghost use Rattle.book.specs.declared.values.Header.{Header};
-ghost use Rattle.steps.specs.Ways.{Uniform as UniformWay};
-ghost use Rattle.history.specs.Histories.{run, HistoriesHold};
-ghost use Rattle.sheets.specs.Calls.{sharing_of, way_of, calls_of, NoRounds};
+ghost use Rattle.history.specs.Histories.{HistoriesHold};
+ghost use Rattle.sheets.specs.Calls.{way_of, NoRounds};
 ghost use Rattle.steps.specs.Refusals.{first_no};
 ghost use Rattle.steps.specs.Calls.{open_questions};
 ghost use Rattle.sheets.specs.Rows.{fault_row};
-ghost use Rattle.sheets.specs.Sheet.{history_text, opened_text, sheet_of, Right};
+ghost use Rattle.sheets.specs.Sheet.{opened_text, sheet_of, Right};
 
-use crate::batch::run;
-use crate::continuous::run_continuous;
+use crate::opened::Opened;
 use crate::rows::{put_fault, put_no};
 use book::{Book, Fault, open};
 use history::{continuous_sessions_hold, paired_sessions_hold, uniform_sessions_hold};
 use ranking::orders::{Continuous, Paired};
 use rules::pair::{BuyersPrice, EarlierOrders, HalfTheSum, SellersPrice};
-use rules::price::{Crossing, PriceRule, Principles};
+use rules::price::{Crossing, Principles};
 use rules::sharing::{EarliestFirst, LargestFirst, ProRata};
-use session::auction::{PairedRules, UniformRules};
 use session::opening::Opening;
 use std::alloc::{AllocError, Global};
-
-/// The text of a book of uniform rounds, with the sharing rule that its header names.
-fn uniform_text<P: PriceRule + Drop>(
-    heap: Global,
-    figures: Opening,
-    price: P,
-    book: Book,
-) -> Result<Vec<u8>, AllocError>
-    requires { length (entries book.rest.now) < 4096 }
-    ensures { IfOk result (λ text. text.items ≡ history_text (run (UniformWay P.PriceRule.meaning (sharing_of book.entry.header.sharing) figures.reference.value) figures.period.quarters (calls_of (entries book.entry.rest.now)))) }
-{
-    let reference = figures.reference;
-    match book.header().sharing {
-        0 => run(
-            heap,
-            figures,
-            UniformRules::new(price, EarliestFirst, reference),
-            book,
-        ),
-        1 => run(
-            heap,
-            figures,
-            UniformRules::new(price, LargestFirst, reference),
-            book,
-        ),
-        _ => run(
-            heap,
-            figures,
-            UniformRules::new(price, ProRata, reference),
-            book,
-        ),
-    }
-}
-
-/// The text of a book that reads, cleared by the way that its header names.
-fn cleared(heap: Global, figures: Opening, book: Book) -> Result<Vec<u8>, AllocError>
-    requires few { length (entries book.rest.now) < 4096 }
-    requires rounds { 5 ≤ book.header.way → NoRounds (entries book.rest.now) }
-    requires opens { (figures.period.quarters ≡ book.header.period) × (figures.reference.value ≡ book.header.reference) }
-    ensures { IfOk result (λ text. text.items ≡ history_text (run (way_of book.entry.header) book.entry.header.period (calls_of (entries book.entry.rest.now)))) }
-{
-    match book.header().way {
-        0 => uniform_text(heap, figures, Crossing, book),
-        1 => uniform_text(heap, figures, Principles, book),
-        2 => run(
-            heap,
-            figures,
-            PairedRules::<Paired, BuyersPrice>::new(BuyersPrice),
-            book,
-        ),
-        3 => run(
-            heap,
-            figures,
-            PairedRules::<Paired, SellersPrice>::new(SellersPrice),
-            book,
-        ),
-        4 => run(
-            heap,
-            figures,
-            PairedRules::<Paired, HalfTheSum>::new(HalfTheSum),
-            book,
-        ),
-        _ => run_continuous::<Continuous, EarlierOrders>(heap, figures, EarlierOrders, book),
-    }
-}
 
 /// Whatever a book's header says, the theorem over every list of calls holds of its way.
 pub fn every_way_holds()
@@ -112,7 +44,12 @@ fn opened(heap: Global, book: Book) -> Result<Vec<u8>, AllocError>
 {
     let header = book.header();
     match Opening::new(header.period, header.reference) {
-        Ok(figures) => cleared(heap, figures, book),
+        Ok(figures) => Opened {
+            heap,
+            figures,
+            book,
+        }
+        .cleared(),
         Err(refusal) => {
             let mut text = Vec::new(heap);
             put_no(&mut text, 0, refusal)?;

@@ -7,6 +7,7 @@ use orders::order::MEMBERS;
 #[derive(Drop)]
 pub(crate) struct Sheet {
     pub text: Vec<u8>,
+    // By the member's number: a set would search for each line, and lines are what long sheets are made of.
     pub traded: [bool; MEMBERS],
     ghost marked: { length traded ≡ 64 },
 }

@@ -2,10 +2,10 @@
 #![tactic(auto)]
 
 mod asks;
-mod batch;
 mod books;
-mod continuous;
 mod growing;
+mod ledger;
+mod opened;
 mod rows;
 mod writing;
 

@@ -12,7 +12,7 @@ loop-line-preserved c =
     let lt = c.loop-line-test.true in
     let b : (get_or ls i no_line).member < member_places = ltb-true _ _ (and_parts _ _ (c.requires i lt)).0 in (
       rows_more ls i _ _ _ lt c.in_ok-put_line.ensures c.loop-line.invariant.0,
-      λ seen h. marks_next seen ls i c.loop-line.self.traded lt c.loop-line.self.marked b (c.loop-line.invariant.1 seen h),
+      λ seen h. marks_next seen ls i _ c.loop-line.self.traded c.from.ensures lt c.loop-line.self.marked b (c.loop-line.invariant.1 seen h),
     )
 
 pub returns : goal.returns

@@ -1,0 +1,149 @@
+//! A book that reads and that opens a session: its records, made as calls of that session, and the text that they give.
+ghost use Rattle.std.specs.Prelude.{◌≡◌, ℕ, ◌<◌, ◌≤◌, length, IfOk, OnOk};
+ghost use Rattle.std.proofs.Props.{props};
+ghost use Rattle.book.specs.Reading.{entries};
+ghost use Rattle.orders.specs.Settlement.{opening};
+ghost use Rattle.steps.specs.declared.call.Call.TheVariants.{Withdraw};
+ghost use Rattle.steps.specs.Ways.{Uniform as UniformWay};
+ghost use Rattle.steps.specs.Calls.{step};
+ghost use Rattle.history.specs.Histories.{run};
+ghost use Rattle.sheets.specs.Calls.{sharing_of, paired_at, continuous_way, way_of, calls_of, NoRounds, Suits};
+ghost use Rattle.sheets.specs.Sheet.{history_text};
+ghost use Rattle.sheets.specs.Growing.{Told};
+
+use crate::asks::ask_of;
+use crate::growing::Sheet;
+use crate::ledger::Ledger;
+use book::{Book, Entry, Withdrawal};
+use ranking::orders::{Continuous as ContinuousRanking, Paired};
+use ranking::{OrderQuote, Ranked, Ranking};
+use rules::pair::{BuyersPrice, EarlierOrders, HalfTheSum, PairPrice, SellersPrice};
+use rules::price::{Crossing, PriceRule, Principles};
+use rules::sharing::{EarliestFirst, LargestFirst, ProRata, SharingRule};
+use session::auction::{Auction, PairedRules, UniformRules};
+use session::batch::Taking;
+use session::continuous::Continuous;
+use session::opening::Opening;
+use std::alloc::{AllocError, Global};
+
+/// Withdraws an order, and adds why that was refused, where it was.
+fn withdraw<L: Ledger>(
+    session: &mut L,
+    sheet: &mut Sheet,
+    number: usize,
+    order: Withdrawal,
+) -> Result<(), AllocError>
+    ensures sheet { OnOk result (Told number (step (L.Ledger.way session.old) (L.Ledger.session session.old) (Withdraw order.member order.number)) sheet.old sheet.new) }
+    ensures session { L.Ledger.session session.new ≡ (step (L.Ledger.way session.old) (L.Ledger.session session.old) (Withdraw order.member order.number)).1 }
+    ensures way { L.Ledger.way session.new ≡ L.Ledger.way session.old }
+{
+    match session.withdraw_order(order.member, order.number) {
+        Ok(_) => Ok(()),
+        Err(refusal) => sheet.put_no(number, refusal),
+    }
+}
+
+/// A book that reads, and the figures that its header opens a session with.
+pub(crate) struct Opened<'a> {
+    pub heap: Global,
+    pub figures: Opening,
+    pub book: Book<'a>,
+    ghost few: { length (entries book.rest.now) < 4096 },
+    ghost rounds: { 5 ≤ book.header.way → NoRounds (entries book.rest.now) } by { Prim.hlevel props },
+    ghost opens: { (figures.period.quarters ≡ book.header.period) × (figures.reference.value ≡ book.header.reference) },
+}
+
+impl<'a> Opened<'a> {
+    /// The text of the history of the book's calls, made to a session that is just opened.
+    fn made_to<L: Ledger + Drop>(self, session: L) -> Result<Vec<u8>, AllocError>
+        requires { Suits (L.Ledger.way session) (entries self.book.rest.now) }
+        ensures { L.Ledger.session session ≡ opening self.entry.book.header.period → IfOk result (λ text. text.items ≡ history_text (run (L.Ledger.way session) self.entry.book.header.period (calls_of (entries self.entry.book.rest.now)))) }
+    {
+        let Opened {
+            heap,
+            figures: _,
+            mut book,
+        } = self;
+        let mut session = session;
+        let mut sheet = Sheet::new(heap);
+        let mut number = 1;
+        while let Some(record) = book.next() {
+            match record.entry() {
+                Entry::Place(placement) => {
+                    session.take_order(&mut sheet, number, ask_of(placement))?
+                }
+                Entry::Withdraw(order) => withdraw(&mut session, &mut sheet, number, order)?,
+                Entry::Round => session = session.clear_round(&mut sheet)?,
+            }
+            number += 1;
+        }
+        sheet.put_accounts(&session)?;
+        Ok(sheet.text)
+    }
+
+    /// The text of a book of rounds by these rules.
+    fn in_rounds<A: Auction + Drop>(self, auction: A) -> Result<Vec<u8>, AllocError>
+        ensures { IfOk result (λ text. text.items ≡ history_text (run (A.Auction.way auction) self.entry.book.header.period (calls_of (entries self.entry.book.rest.now)))) }
+    {
+        auction.vouch();
+        let session = Taking::open(self.figures, auction);
+        self.made_to(session)
+    }
+
+    /// The text of a book of uniform rounds.
+    fn uniform<P: PriceRule + Drop, S: SharingRule + Drop>(
+        self,
+        price: P,
+        sharing: S,
+    ) -> Result<Vec<u8>, AllocError>
+        ensures { IfOk result (λ text. text.items ≡ history_text (run (UniformWay P.PriceRule.meaning S.SharingRule.meaning self.entry.book.header.reference) self.entry.book.header.period (calls_of (entries self.entry.book.rest.now)))) }
+    {
+        let rules = UniformRules::new(price, sharing, self.figures.reference);
+        self.in_rounds(rules)
+    }
+
+    /// The text of a book of uniform rounds, with the sharing rule that its header names.
+    fn shared<P: PriceRule + Drop>(self, price: P) -> Result<Vec<u8>, AllocError>
+        ensures { IfOk result (λ text. text.items ≡ history_text (run (UniformWay P.PriceRule.meaning (sharing_of self.entry.book.header.sharing) self.entry.book.header.reference) self.entry.book.header.period (calls_of (entries self.entry.book.rest.now)))) }
+    {
+        match self.book.header().sharing {
+            0 => self.uniform(price, EarliestFirst),
+            1 => self.uniform(price, LargestFirst),
+            _ => self.uniform(price, ProRata),
+        }
+    }
+
+    /// The text of a book of paired rounds.
+    fn paired<P: PairPrice + Drop>(self, price: P) -> Result<Vec<u8>, AllocError>
+        ensures { IfOk result (λ text. text.items ≡ history_text (run (paired_at P.PairPrice.meaning) self.entry.book.header.period (calls_of (entries self.entry.book.rest.now)))) }
+    {
+        self.in_rounds(PairedRules::<Paired, P>::new(price))
+    }
+
+    /// The text of a continuous book.
+    fn continuous(self) -> Result<Vec<u8>, AllocError>
+        requires { 5 ≤ self.book.header.way }
+        ensures { IfOk result (λ text. text.items ≡ history_text (run continuous_way self.entry.book.header.period (calls_of (entries self.entry.book.rest.now)))) }
+    {
+        let session: Continuous<ContinuousRanking, EarlierOrders> = Continuous::open(
+            self.figures,
+            EarlierOrders,
+        );
+        self.made_to(session)
+    }
+
+    /// The text of the book, cleared by the way that its header names.
+    #[tactic(auto, unfolding(crate::specs::Calls::way_of))]
+    pub(crate) fn cleared(self) -> Result<Vec<u8>, AllocError>
+        ensures { IfOk result (λ text. text.items ≡ history_text (run (way_of self.entry.book.header) self.entry.book.header.period (calls_of (entries self.entry.book.rest.now)))) }
+    {
+        match self.book.header().way {
+            0 => self.shared(Crossing),
+            1 => self.shared(Principles),
+            2 => self.paired(BuyersPrice),
+            3 => self.paired(SellersPrice),
+            4 => self.paired(HalfTheSum),
+            _ => self.continuous(),
+        }
+    }
+}

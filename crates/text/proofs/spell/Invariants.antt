@@ -1,8 +1,0 @@
-use Rattle.std.proofs.Common.{◌≡◌, ◌^◌, ◌<◌, ◌≤◌, ◌++◌, length, drop, decimal}
-use Rattle.text.proofs.spell.Given as goal
-
-abbrev pub invariant-loop-rest : goal.invariant-loop-rest
-invariant-loop-rest l = (decimal l.rest ++ drop l.start l.digits ≡ decimal l.number) × (l.start ≤ 20) × (length l.digits ≡ 20) × (l.rest < 2 ^ 64)
-
-abbrev pub decreases-loop-rest : goal.decreases-loop-rest
-decreases-loop-rest l = l.rest
