@@ -1,5 +1,5 @@
 -- The laws of the contract's own rules.
-use Rattle.std.specs.Prelude.{◌≡◌, ℕ, suc, ◌≤◌, Bool, ◌==◌}
+use Rattle.std.specs.Prelude.{◌≡◌, ℕ, suc, ◌≤◌, Bool, true, ◌==◌}
 use Rattle.std.proofs.Common.{arith}
 use Rattle.std.proofs.lemmas.Bool.{eq-eqb, eqb-true}
 use Rattle.curves.specs.Sums.{lowest}
@@ -19,3 +19,7 @@ module _ (top : ℕ) (D S : ℕ → ℕ) where
 
   pub clears_there : executable D S (lowest (suc top) trades) ≡ volume top D S
   clears_there = eqb-true _ _ (lowest_passes (suc top) trades (omega (arith, clears_within)))
+
+  -- some tick has it
+  pub some_clears : (p : ℕ) × (p ≤ top) × (trades p ≡ true)
+  some_clears = let reached = (volume_is_greatest top D S).1 in (reached.0, reached.1, eq-eqb _ _ reached.2)

@@ -23,7 +23,7 @@ smallest_first = by_turns (λ q. 0) smallness (λ q. q)
 
 -- a third of the way from the sell's limit to the buy's, rounded down
 abbrev pub third_of_the_way : PairMeaning
-third_of_the_way buy sell earlier = sell + (buy - sell) / 3
+third_of_the_way buy sell _ = sell + (buy - sell) / 3
 
 -- equal limits by what is left, the larger first, then the earlier
 abbrev pub larger_left : OrderRank

@@ -3,22 +3,22 @@
 
 ghost use Rattle.std.specs.Prelude.{◌≡◌, ◌==◌};
 ghost use Rattle.curves.specs.Curves.{executable, curve};
-ghost use Rattle.ticks.specs.Seen.{demand_of, supply_of};
+ghost use Rattle.ticks.specs.Seen.{demand_of, supply_of, greatest_volume};
 ghost use Rattle.own_rules.specs.Meanings.{lowest_clearing, smallness, smallest_first, third_of_the_way, larger_left};
 ghost use Rattle.ticks.specs.Ticks.{highest_tick};
 ghost use Rattle.own_rules.specs.Laws.{clears_within, clears_there};
 ghost use Rattle.std.proofs.Common.{rules};
 ghost use Rattle.rules.specs.Quotas.{claims_law};
 
-use ranking::orders::{Buying, LimitQuote, Selling, TieBreak};
-use ranking::{OrderFields, Ranking};
+use ranking::OrderFields;
+use ranking::orders::TieBreak;
 use rules::pair::PairPrice;
 use rules::price::PriceRule;
 use rules::sharing::SharingRule;
 use ticks::figures::Figures;
 use ticks::search::{TickTest, lowest_tick};
 use ticks::tick::Tick;
-use turns::{Turns, share_by_turns};
+use turns::{ByKey, share_by_key};
 
 pub mod show;
 
@@ -26,21 +26,20 @@ pub mod show;
 #[derive(Clone, Copy)]
 pub struct LowestClearing;
 
-/// The executable volume at a tick is this one.
+/// The greatest volume can trade at a tick.
 #[derive(Drop)]
-struct Trades<'a> {
+struct Clears<'a> {
     figures: &'a Figures,
-    volume: u64,
 }
 
-impl<'a> TickTest for Trades<'a> {
-    ghost passing = { λ t p. (executable (demand_of t.figures.now) (supply_of t.figures.now) p == t.volume) };
+impl<'a> TickTest for Clears<'a> {
+    ghost passing = { λ t p. (executable (demand_of t.figures.now) (supply_of t.figures.now) p == greatest_volume t.figures.now) };
 
     fn passes(&self, tick: Tick) -> bool {
         self.figures
             .demand_at(tick)
             .min(self.figures.supply_at(tick))
-            == self.volume
+            == self.figures.volume()
     }
 }
 
@@ -50,10 +49,8 @@ impl PriceRule for LowestClearing {
     ghost clears = { λ d s reference wide also curves some. (clears_within highest_tick (curve d) (curve s), clears_there highest_tick (curve d) (curve s)) };
 
     fn price(&self, figures: &Figures, reference: Tick) -> Tick {
-        let volume = figures.volume();
-        Tick {
-            value: lowest_tick(&Trades { figures, volume }),
-        }
+        // Some tick clears: V is the volume of one.
+        lowest_tick(&Clears { figures }).unwrap()
     }
 }
 
@@ -61,25 +58,11 @@ impl PriceRule for LowestClearing {
 #[derive(Clone, Copy)]
 pub struct SmallestFirst;
 
-impl Turns for SmallestFirst {
-    ghost sure = { λ t q. 0 };
-
+impl ByKey for SmallestFirst {
     ghost key = { λ t q. smallness q };
 
-    ghost claim = { λ t q. q };
-
-    ghost within = { Prim.search rules };
-
-    fn sure(&self, quantity: u32) -> u32 {
-        0
-    }
-
     fn key(&self, quantity: u32) -> u128 {
-        4_294_967_296 - quantity as u128
-    }
-
-    fn claim(&self, quantity: u32) -> u32 {
-        quantity
+        4_294_967_296 - u128::from(quantity)
     }
 }
 
@@ -89,7 +72,7 @@ impl SharingRule for SmallestFirst {
     ghost shares = { claims_law smallness };
 
     fn share(&self, amount: u64, group: &mut [u32]) {
-        share_by_turns(self, amount as u128, group);
+        share_by_key(self, amount, group);
     }
 }
 
@@ -122,12 +105,4 @@ impl TieBreak for LargerLeft {
     fn is_ahead(order: &OrderFields, other: &OrderFields) -> bool {
         other.left < order.left || (order.left == other.left && order.number < other.number)
     }
-}
-
-impl Ranking for LargerLeft {
-    type Buy = LimitQuote<Buying, LargerLeft>;
-
-    type Sell = LimitQuote<Selling, LargerLeft>;
-
-    ghost sides = { Prim.search rules };
 }
