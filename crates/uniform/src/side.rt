@@ -55,12 +55,11 @@ impl RoundSide for Buying {
     }
 
     fn margin(figures: &Figures) -> Tick {
-        Tick {
-            value: highest_tick(&OpenEnough {
-                figures,
-                side: OrderSide::Buy,
-            }),
-        }
+        highest_tick(&OpenEnough {
+            figures,
+            side: OrderSide::Buy,
+        })
+        .unwrap_or(Tick { value: 0 })
     }
 }
 
@@ -74,12 +73,10 @@ impl RoundSide for Selling {
     }
 
     fn margin(figures: &Figures) -> Tick {
-        Tick {
-            value: lowest_tick(&OpenEnough {
-                figures,
-                side: OrderSide::Sell,
-            })
-            .min(HIGHEST),
-        }
+        lowest_tick(&OpenEnough {
+            figures,
+            side: OrderSide::Sell,
+        })
+        .unwrap_or(Tick { value: HIGHEST })
     }
 }

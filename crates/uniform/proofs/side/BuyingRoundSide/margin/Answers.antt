@@ -1,12 +1,11 @@
-use Rattle.std.proofs.Common.{leb, arith}
+use Rattle.std.proofs.Common.{suc, nat_le, rules, arith}
 use Rattle.ticks.specs.Ticks.{highest_tick}
-use Rattle.ticks.specs.Seen.{demand_of}
-use Rattle.uniform.specs.Margins.{figures_volume}
-use Rattle.uniform.proofs.Standing.{highest_tick_le}
+use Rattle.ticks.specs.Seen.{demand_of, greatest_volume}
+use Rattle.ticks.proofs.Ends.{highest_never}
 use Rattle.uniform.proofs.side.BuyingRoundSide.margin.Goals as goal
 
-pub invariant_of-result : goal.invariant_of-result
-invariant_of-result c =
-    record {
-      within = omega (arith, c.highest_tick.ensures, highest_tick_le highest_tick (λ p. leb (figures_volume c.args.figures.now) (demand_of c.args.figures.now p)));
-    }
+pub returns : goal.returns
+returns c =
+    let f = c.args.figures.now in
+    let never = highest_never (suc highest_tick) (λ p. nat_le (greatest_volume f) (demand_of f p)) in
+    search rules
