@@ -71,7 +71,7 @@ module _ (rules : Pairs) (laws : PairsLaw rules) (os : List Order) (good : Good 
   best_on : (side : Bool) → BestOn rules side os (best_place rules side os)
   best_on side =
       best_found (λ (o : OrderFields). o.number) (rank_of rules side) (law_of rules laws side).ranks (standing_on side os) (length os)
-      (best_of (rank_of rules side) (length os) (standing_on side os)) refl (distinct side os good)
+      (best_place rules side os) refl (distinct side os good)
 
   -- no order that stands on a side has a better limit than its best
   best_limit : (side : Bool) (b j : ℕ) → BestOn rules side os (Some b) → stands side (at os j) ≡ true → better side (at os j).limit (at os b).limit ≡ false
