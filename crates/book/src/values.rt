@@ -1,5 +1,6 @@
 //! What a book holds: its header and its records, as plain values.
-// Way, sharing, side and kind stay numbers here: `write` takes any number and answers its fault, which an enum could not ask.
+//! Way, sharing, side and kind are plain numbers here: `write` takes any and answers the fault of a wrong one, while enums
+//! would leave that question to its callers.
 
 /// The header's values. The form, the record count and the spare bits are not among them: writing fills them in.
 #[derive(Clone, Copy, PartialEq, Eq, Debug)]

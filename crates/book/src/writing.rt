@@ -142,6 +142,7 @@ fn put_all(header: Header, entries: &[Entry], out: &mut [u8]) -> usize
     ensures bytes { out.new ≡ encode header entries.now ++ drop (book_length entries.now) out.old }
 {
     put(out, 0, bytes_of(header_word(header, entries.len())));
+    // Each place by its number: after the borrows of `chunks_exact_mut` no proof knows what was written.
     for (i, entry) in entries.iter().enumerate() {
         put(out, SIX + SIX * i, bytes_of(entry_word(*entry)));
     }

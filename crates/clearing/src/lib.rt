@@ -8,15 +8,13 @@ use book::{Fault, open};
 use std::alloc::{AllocError, Global};
 
 /// Writes the line of a fault behind a text.
+#[tactic(auto, unfolding(crate::specs::Sheet::fault_line))]
 fn append_fault(out: &mut String, fault: Fault) -> Result<(), AllocError>
     ensures { OnOk result (string_bytes out.new ≡ string_bytes out.old ++ fault_line fault) }
 {
     let number = fault.question.number();
     let record = fault.record;
-    match write!(out, "FAULT {number} {record}\n") {
-        Ok(()) => Ok(()),
-        Err(_) => Err(AllocError),
-    }
+    writeln!(out, "FAULT {number} {record}")
 }
 
 /// The sheet of a book that cannot be read; `None` where the book reads.

@@ -6,7 +6,8 @@ use Rattle.book.specs.declared.values.Entry.TheVariants.{Place, Withdraw, Round}
 use Rattle.book.specs.declared.fault.Fault.{Fault}
 use Rattle.book.specs.Numbers.{number_of}
 use Rattle.book.specs.Reading.{read_book}
-use Rattle.listing.specs.Words.{way_name, sharing_name, side_name, kind_name, wording}
+use Rattle.book.specs.Wording.{wording}
+use Rattle.listing.specs.Words.{way_name, sharing_name, side_name, kind_name}
 
 -- a code with its name
 unfoldable pub named_line : List ℕ → ℕ → List ℕ → List ℕ

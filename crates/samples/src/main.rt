@@ -2,7 +2,7 @@
 //! a book that reads is written again and compared with what was read.
 #![tactic(auto)]
 
-use book::{open, write};
+use book::{Entry, open, write};
 use clearing::fault_sheet;
 use listing::listing;
 use std::alloc::{AllocError, Global};
@@ -10,13 +10,13 @@ use std::fs;
 
 /// Whether the writing of what a book reads as is that book; `None` for a book that does not read.
 fn written_alike(heap: Global, bytes: &[u8]) -> Result<Option<bool>, AllocError> {
-    let Ok(mut book) = open(bytes) else {
+    let Ok(book) = open(bytes) else {
         return Ok(None);
     };
     let header = book.header();
     let mut entries = Vec::new(heap);
-    while let Some(record) = book.next() {
-        entries.push(record.entry())?;
+    for record in book {
+        entries.push(Entry::from(record))?;
     }
     let mut out = vec![in heap; 0; bytes.len()]?;
     let done = write(header, entries.as_slice(), out.as_mut_slice());

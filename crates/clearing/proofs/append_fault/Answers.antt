@@ -1,7 +1,0 @@
-use Rattle.std.proofs.Common.{rules}
-use Rattle.clearing.specs.Sheet.{fault_line}
-use Rattle.clearing.proofs.append_fault.Goals as goal
-
-pub returns-in-Ok : goal.returns-in-Ok
-unfolding fault_line
-returns-in-Ok c = search rules
