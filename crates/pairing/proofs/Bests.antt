@@ -66,18 +66,15 @@ quoted made None = None
 quoted made (Some b) = Some (b.0, made b.1)
 
 quoted_place : {X : Type 0} (made : OrderFields → X) (best : Option (ℕ × OrderFields)) → place_of (quoted made best) ≡ place_of best
-quoted_place made None = refl
-quoted_place made (Some b) = refl
+quoted_place made best = grind arith
 
 module _ {X : Type 0} (ahead : X → X → Bool) (made : OrderFields → X) where
   quoted_leads : (x : OrderFields) (best : Option (ℕ × OrderFields)) → leads ahead (made x) (quoted made best) ≡ leads (order_rank ahead made) x best
-  quoted_leads x None = refl
-  quoted_leads x (Some b) = refl
+  quoted_leads x best = grind arith
 
   quoted_joined : (n : ℕ) (stand : Bool) (x : OrderFields) (best : Option (ℕ × OrderFields)) →
       joined ahead n (cond stand (Some (made x)) None) (quoted made best) ≡ quoted made (joined (order_rank ahead made) n (cond stand (Some x) None) best)
-  quoted_joined n false x best = refl
-  quoted_joined n true x best = grind (arith, quoted_leads)
+  quoted_joined n stand x best = let same = quoted_leads x best in grind arith
 
   quoted_best : (side : Bool) (os : List Order) (n : ℕ) → best_of ahead n (quote_on made side os) ≡ quoted made (best_of (order_rank ahead made) n (standing_on side os))
   quoted_best side os zero = refl
