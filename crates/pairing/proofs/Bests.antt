@@ -3,8 +3,8 @@ use Rattle.std.proofs.Common.{◌≡◌, ℕ, zero, suc, ◌<◌, Bool, true, fa
 use Rattle.std.proofs.lemmas.List.{get_or_past}
 use Rattle.std.proofs.lemmas.Bool.{cases_eq, cases_Bool}
 use Rattle.ranking.specs.declared.OrderFields.{OrderFields}
-use Rattle.ranking.specs.Laws.{RankLaw, LimitLaw, better}
-use Rattle.ranking.specs.Orders.{OrderRank, OrderRankLaw, MadeFrom, order_rank}
+use Rattle.ranking.specs.Laws.{better}
+use Rattle.ranking.specs.Orders.{OrderRank, OrderRankLaw, order_rank}
 use Rattle.ranking.specs.Best.{leads, joined, best_of, place_of, Distinct, Found}
 use Rattle.ranking.proofs.Bests.{best_found}
 use Rattle.orders.specs.declared.order.Order.{Order}
@@ -66,18 +66,15 @@ quoted made None = None
 quoted made (Some b) = Some (b.0, made b.1)
 
 quoted_place : {X : Type 0} (made : OrderFields → X) (best : Option (ℕ × OrderFields)) → place_of (quoted made best) ≡ place_of best
-quoted_place made None = refl
-quoted_place made (Some b) = refl
+quoted_place made best = grind arith
 
 module _ {X : Type 0} (ahead : X → X → Bool) (made : OrderFields → X) where
   quoted_leads : (x : OrderFields) (best : Option (ℕ × OrderFields)) → leads ahead (made x) (quoted made best) ≡ leads (order_rank ahead made) x best
-  quoted_leads x None = refl
-  quoted_leads x (Some b) = refl
+  quoted_leads x best = grind arith
 
   quoted_joined : (n : ℕ) (stand : Bool) (x : OrderFields) (best : Option (ℕ × OrderFields)) →
       joined ahead n (cond stand (Some (made x)) None) (quoted made best) ≡ quoted made (joined (order_rank ahead made) n (cond stand (Some x) None) best)
-  quoted_joined n false x best = refl
-  quoted_joined n true x best = grind (arith, quoted_leads)
+  quoted_joined n stand x best = let same = quoted_leads x best in grind arith
 
   quoted_best : (side : Bool) (os : List Order) (n : ℕ) → best_of ahead n (quote_on made side os) ≡ quoted made (best_of (order_rank ahead made) n (standing_on side os))
   quoted_best side os zero = refl
@@ -97,18 +94,6 @@ module _ {X : Type 0} (ahead : X → X → Bool) (made : OrderFields → X) wher
   -- a place that is found is within the table
   pub found_in : (side : Bool) (os : List Order) (found : Option ℕ) (k : ℕ) → found ≡ place_of (best_of ahead (length os) (quote_on made side os)) → found ≡ Some k → k < length os
   found_in side os found k e is = best_in (order_rank ahead made) side os k (best_found_by side os found (Some k) e is)
-
--- the law of a ranking of quotes, as it comes to orders
-pub order_law : {X : Type 0} (mark limit left : X → ℕ) (ahead : X → X → Bool) (made : OrderFields → X) (side buys : Bool) →
-    RankLaw mark ahead → LimitLaw side limit ahead → MadeFrom mark limit left made → side ≡ buys → OrderRankLaw buys (order_rank ahead made)
-order_law mark limit left ahead made side buys r l m e =
-    subst (λ b. OrderRankLaw b (order_rank ahead made)) e (record {
-      ranks = record {
-        one = λ x y ne. r.one (made x) (made y) (λ q. ne (sym (m x).0 ∙ q ∙ (m y).0));
-        chain = λ x y z p q. r.chain (made x) (made y) (made z) p q;
-      };
-      limits = λ x y h. l (made x) (made y) (rw ((m x).1, (m y).1) h);
-    })
 
 -- ---- nothing crosses
 

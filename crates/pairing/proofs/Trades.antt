@@ -1,5 +1,5 @@
 -- One trade of a pair that meets.
-use Rattle.std.proofs.Common.{◌≡◌, ℕ, ◌+◌, ◌-◌, ◌<◌, ◌≤◌, Bool, true, false, cond, not, ltb, List, length, set, IfSome, Some, None, sum_by, count_by, Option, sym, ap, ◌∙◌, subst, inl, inr, arith}
+use Rattle.std.proofs.Common.{◌≡◌, ℕ, ◌+◌, ◌-◌, ◌<◌, ◌≤◌, Bool, true, false, cond, ltb, List, length, set, IfSome, Some, None, sum_by, count_by, Option, sym, ap, ◌∙◌, subst, inl, inr, arith}
 use Rattle.std.proofs.lemmas.List.{get_or-set_same, get_or-set_other, length-set}
 use Rattle.std.proofs.lemmas.List.Sums.{sum_by-set}
 use Rattle.std.proofs.lemmas.Bool.{cases_lt}
@@ -52,12 +52,8 @@ module _ (os : List Order) (k q : ℕ) (lt : k < length os) where
   standings_most : standings filled ≤ standings os
   standings_most =
       let s = sum_by-set (λ (o : Order). one_if (ltb 0 (standing o))) os k (filled_by q (at os k)) no_order lt in
-      let e : one_if (ltb 0 (standing (filled_by q (at os k)))) ≡ one_if (ltb 0 (standing (at os k) - q)) = ap (λ n. one_if (ltb 0 n)) (filled_standing q (at os k)) in
-      let l : one_if (ltb 0 (standing (at os k) - q)) ≤ one_if (ltb 0 (standing (at os k))) = fewer (standing (at os k)) q in
-      omega arith
-    where
-      fewer : (n m : ℕ) → one_if (ltb 0 (n - m)) ≤ one_if (ltb 0 n)
-      fewer n m = grind arith
+      let t = filled_standing q (at os k) in
+      grind arith
 
   -- one that takes all leaves one standing order fewer
   standings_fewer : 0 < standing (at os k) → standing (at os k) ≤ q → standings filled + 1 ≡ standings os
@@ -105,17 +101,11 @@ module _ (rules : Pairs) (os : List Order) (i : ℕ) (p : ℕ × ℕ) (nb : Numb
   abbrev ys : List Order
   ys = fill os bl
 
-  buy_parts : (buys (at os b).side ≡ true) × (ltb 0 (standing (at os b)) ≡ true)
-  buy_parts = let y = h.buys in grind arith
-
-  sell_parts : (not (buys (at os s).side) ≡ true) × (ltb 0 (standing (at os s)) ≡ true)
-  sell_parts = let y = h.sells in grind arith
-
   pub is_buy : buys (at os b).side ≡ true
-  is_buy = buy_parts.0
+  is_buy = let y = h.buys in grind arith
 
   pub is_sell : buys (at os s).side ≡ false
-  is_sell = let y = sell_parts.0 in grind arith
+  is_sell = let y = h.sells in grind arith
 
   pub buy_in : b < length os
   buy_in = stands_in true os b h.buys
@@ -124,10 +114,10 @@ module _ (rules : Pairs) (os : List Order) (i : ℕ) (p : ℕ × ℕ) (nb : Numb
   sell_in = stands_in false os s h.sells
 
   pub buy_some : 0 < standing (at os b)
-  buy_some = let y = buy_parts.1 in grind arith
+  buy_some = let y = h.buys in grind arith
 
   pub sell_some : 0 < standing (at os s)
-  sell_some = let y = sell_parts.1 in grind arith
+  sell_some = let y = h.sells in grind arith
 
   pub some_quantity : 0 < q
   some_quantity = omega (arith, buy_some, sell_some)

@@ -1,9 +1,8 @@
 -- The orders of a round trade in turn: one order more.
-use Rattle.std.proofs.Common.{◌≡◌, ℕ, zero, suc, ◌+◌, ◌<◌, ◌≤◌, Bool, true, false, cond, ◌&&◌, ltb, leb, List, [], ◌∷◌, ◌++◌, length, get_or, take, fold, sym, refl, ap, ◌∙◌, add-zero, add-one, arith}
+use Rattle.std.proofs.Common.{◌≡◌, ℕ, zero, suc, ◌+◌, ◌<◌, ◌≤◌, Bool, cond, ltb, List, [], ◌∷◌, ◌++◌, length, get_or, take, fold, sym, refl, ap, ◌∙◌, add-zero, add-one, arith}
 use Rattle.std.specs.List.{AllByRecursion}
 use Rattle.std.proofs.lemmas.List.{get_or-set_other, get_or-take, length-take-le, length-set}
 use Rattle.std.proofs.lemmas.List.Sums.{fold_push}
-use Rattle.std.proofs.lemmas.Bool.{cond_both, lt-ltb, le-leb}
 use Rattle.orders.specs.declared.order.Order.{Order}
 use Rattle.orders.specs.declared.order.Line.{Line}
 use Rattle.orders.specs.Orders.{at, no_order, standing, filled_by}
@@ -26,21 +25,7 @@ module _ (p : ℕ) where
   more j (o ∷ os) (q ∷ qs) (suc i) h e =
       let y = more (suc j) os qs i (omega arith) (omega arith) in
       let n = more j os qs i (omega arith) (omega arith) in
-      let U : ℕ → List Line = λ j. lines_at p j (take i os) (take i qs) in
-      let l : ℕ → Line = λ n. line_of (at os i) (get_or qs i 0) p n in
-      elim (ltb 0 q) as (λ b.
-      cond b (line_of o q p j ∷ lines_at p (suc j) (take (suc i) os) (take (suc i) qs)) (lines_at p j (take (suc i) os) (take (suc i) qs))
-      ≡ cond (ltb 0 (get_or qs i 0)) (cond b (line_of o q p j ∷ U (suc j)) (U j) ++ (l (j + length (cond b (line_of o q p j ∷ U (suc j)) (U j))) ∷ [])) (cond b (line_of o q p j ∷ U (suc j)) (U j))) [
-        | true ↦
-            ap (λ t. line_of o q p j ∷ t) y
-            ∙ cond_both (ltb 0 (get_or qs i 0)) (U (suc j) ++ (l (suc j + length (U (suc j))) ∷ [])) (U (suc j))
-            (λ t. line_of o q p j ∷ t ≡ cond (ltb 0 (get_or qs i 0)) ((line_of o q p j ∷ U (suc j)) ++ (l (j + length (line_of o q p j ∷ U (suc j))) ∷ [])) (line_of o q p j ∷ U (suc j)))
-            (λ z. let c : suc j + length (U (suc j)) ≡ j + suc (length (U (suc j))) = omega arith in
-            ap (λ n. line_of o q p j ∷ (U (suc j) ++ (l n ∷ []))) c
-            ∙ sym (ap (λ b. cond b ((line_of o q p j ∷ U (suc j)) ++ (l (j + length (line_of o q p j ∷ U (suc j))) ∷ [])) (line_of o q p j ∷ U (suc j))) z))
-            (λ z. sym (ap (λ b. cond b ((line_of o q p j ∷ U (suc j)) ++ (l (j + length (line_of o q p j ∷ U (suc j))) ∷ [])) (line_of o q p j ∷ U (suc j))) z))
-        | false ↦ n
-      ]
+      grind arith
 
   abbrev so_far : List Order → List ℕ → ℕ → List Line
   so_far os qs i = lines_at p 0 (take i os) (take i qs)
@@ -66,9 +51,9 @@ module _ (p : ℕ) where
   lines_below base n j (o ∷ os) (q ∷ qs) g h =
       let x : o.number ≡ suc (base + 0) = g 0 (omega arith) in
       let next : (k : ℕ) → k < length os → (at os k).number ≡ suc (suc base + k) = λ k l. let y = g (suc k) (omega arith) in omega arith in
-      cond_both (ltb 0 q) (line_of o q p j ∷ lines_at p (suc j) os qs) (lines_at p j os qs) (AllByRecursion (λ (l : Line). l.order ≤ n))
-      (λ _. (omega arith, lines_below (suc base) n (suc j) os qs next (omega arith)))
-      (λ _. lines_below (suc base) n j os qs next (omega arith))
+      let some = lines_below (suc base) n (suc j) os qs next (omega arith) in
+      let none = lines_below (suc base) n j os qs next (omega arith) in
+      grind arith
 
   untouched_by : (os : List Order) (ls : List Line) (k : ℕ) → AllByRecursion (λ (l : Line). l.order ≤ k) ls → 0 < k → at (fold fill os ls) k ≡ at os k
   untouched_by os [] k a h = refl
@@ -118,14 +103,10 @@ module _ (p : ℕ) (s : Session) (qs : List ℕ) (ready : Ready s qs) (i : ℕ) 
 
   trades_if : can_trade i q t ≡ ltb 0 q
   trades_if =
-      let room : ltb (length t.lines) most_lines ≡ true =
-      lt-ltb (length t.lines) most_lines (omega (arith, ap length lines_now, lines_most p 0 (take i os) (take i qs), length-take-le i os (omega arith), ready.few)) in
-      let enough : leb q (standing (at t.orders i)) ≡ true =
-      le-leb q (standing (at t.orders i)) (omega (arith, ap standing order_now, ready.within i h)) in
-      ap (λ b. b && (ltb 0 q && leb q (standing (at t.orders i)))) room ∙ ap (λ b. ltb 0 q && b) enough ∙ and_true (ltb 0 q)
-    where
-      and_true : (b : Bool) → (b && true) ≡ b
-      and_true b = grind arith
+      let room : length t.lines < most_lines =
+      omega (arith, ap length lines_now, lines_most p 0 (take i os) (take i qs), length-take-le i os (omega arith), ready.few) in
+      let enough : q ≤ standing (at t.orders i) = omega (arith, ap standing order_now, ready.within i h) in
+      grind arith
 
   -- the turn of one order
   pub traded_more : (r : Bool) → r ≡ can_trade i q t → cond r (traded i q p t) t ≡ traded_to p s qs (i + 1)
@@ -141,5 +122,4 @@ module _ (p : ℕ) (s : Session) (qs : List ℕ) (ready : Ready s qs) (i : ℕ) 
       ∙ sym (ap (posted_lines s) (lines_more p os qs i h ready.whole))
     where
       pull : (b : Bool) (xs ys : List Line) → cond b (posted_lines s xs) (posted_lines s ys) ≡ posted_lines s (cond b xs ys)
-      pull true xs ys = refl
-      pull false xs ys = refl
+      pull b xs ys = grind arith

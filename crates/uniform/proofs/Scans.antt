@@ -1,10 +1,10 @@
 -- A look at each order tells the best limits, and so whether anything can trade.
-use Rattle.std.proofs.Common.{◌≡◌, ℕ, suc, ◌+◌, ◌-◌, ◌<◌, ◌≤◌, min, max, Bool, true, false, cond, not, ◌&&◌, ltb, leb, List, length, sym, refl, ap, ◌∙◌, inl, inr, arith}
+use Rattle.std.proofs.Common.{◌≡◌, ℕ, suc, ◌+◌, ◌-◌, ◌<◌, ◌≤◌, min, max, Bool, true, false, cond, ltb, leb, List, length, ap, ◌∙◌, inl, inr, arith}
 use Rattle.std.proofs.lemmas.List.{length-map}
-use Rattle.std.proofs.lemmas.Bool.{cases_lt, lt-ltb, le-ltb, le-leb, lt-leb, cond-true, cond-false}
+use Rattle.std.proofs.lemmas.Bool.{cases_lt, le-leb, lt-leb, cond-true, cond-false}
 use Rattle.curves.specs.Sums.{total}
 use Rattle.curves.specs.Curves.{executable}
-use Rattle.curves.specs.Orders.{Bid, on, keeps, willing, demand, supply, clearing_volume}
+use Rattle.curves.specs.Orders.{Bid, willing, demand, supply, clearing_volume}
 use Rattle.curves.specs.Orders.{at as bid}
 use Rattle.curves.proofs.Sums.{greatest_at, greatest_le}
 use Rattle.curves.proofs.Orders.{orders_make_curves}
@@ -13,7 +13,7 @@ use Rattle.ticks.proofs.Steps.{total_none, total_more}
 use Rattle.orders.specs.declared.order.Life.{Life}
 use Rattle.orders.specs.declared.order.Life.TheVariants.{Standing, Filled, Withdrawn, Killed}
 use Rattle.orders.specs.declared.order.Order.{Order}
-use Rattle.orders.specs.Orders.{buys, is_standing, standing, left_by, bid_of, bids_of, at, sound_order}
+use Rattle.orders.specs.Orders.{buys, is_standing, left_by, bid_of, bids_of, at, sound_order}
 use Rattle.orders.specs.Willing.{willing_at}
 use Rattle.orders.proofs.Keeps.{sound_parts}
 use Rattle.orders.proofs.Bids.{bid_at}
@@ -62,8 +62,7 @@ module _ (os : List Order) (i : ℕ) (h : i < length os) (s : sound_order i (at 
 
   pub scanned_other : is_standing o.life ≡ false → Scanned os (i + 1) a l
   scanned_other out =
-      let none : (side : Bool) (p : ℕ) → willing_at side p (bid_of o) ≡ 0 =
-      λ side p. ap (λ st. cond (on side (bid_of o) && keeps side o.limit p) (cond st o.left 0) 0) out ∙ zero_or (on side (bid_of o) && keeps side o.limit p) in
+      let none : (side : Bool) (p : ℕ) → willing_at side p (bid_of o) ≡ 0 = λ side p. grind arith in
       record {
         high = λ p g. omega (arith, open_more true p, none true p, was.high p g);
         low = λ p g. omega (arith, open_more false p, none false p, was.low p g);
@@ -71,16 +70,12 @@ module _ (os : List Order) (i : ℕ) (h : i < length os) (s : sound_order i (at 
         sell = λ g. omega (arith, open_more false l, was.sell g);
         below = was.below;
       }
-    where
-      zero_or : (b : Bool) → ◌≡◌ {A = ℕ} (cond b 0 0) 0
-      zero_or true = refl
-      zero_or false = refl
 
   pub scanned_buy : is_standing o.life ≡ true → buys o.side ≡ true → Scanned os (i + 1) (max a (o.limit + 1)) l
   scanned_buy st b =
       let w : (p : ℕ) → willing_at true p (bid_of o) ≡ cond (leb p o.limit) o.left 0 =
-      λ p. ap (λ x. cond (x && leb p o.limit) (standing o) 0) b ∙ ap (λ x. cond (leb p o.limit) (cond x o.left 0) 0) st in
-      let v : (p : ℕ) → willing_at false p (bid_of o) ≡ 0 = λ p. ap (λ x. cond (not x && leb o.limit p) (standing o) 0) b in
+      λ p. grind arith in
+      let v : (p : ℕ) → willing_at false p (bid_of o) ≡ 0 = λ p. grind arith in
       record {
         high = λ p g. omega (arith, open_more true p, was.high p (omega arith), w p, cond-false (leb p o.limit) o.left 0 (lt-leb p o.limit (omega arith)));
         low = λ p g. omega (arith, open_more false p, v p, was.low p g);
@@ -90,14 +85,10 @@ module _ (os : List Order) (i : ℕ) (h : i < length os) (s : sound_order i (at 
               omega (arith, ap (open_of os (i + 1) true) e, open_more true (a - 1), was.buy (omega arith))
           | inr past ↦
               let e : max a (o.limit + 1) - 1 ≡ o.limit = omega arith in
-              omega (
-                arith,
-                ap (open_of os (i + 1) true) e,
-                open_more true o.limit,
-                w o.limit,
-                cond-true (leb o.limit o.limit) o.left 0 (le-leb o.limit o.limit (omega arith)),
-                some_left i o s st,
-              )
+              let here = w o.limit in
+              let some = some_left i o s st in
+              let more = open_more true o.limit in
+              rw e (grind arith)
         ];
         sell = λ g. omega (arith, open_more false l, was.sell g);
         below = omega (arith, was.below, (sound_parts i o s).limit);
@@ -106,8 +97,8 @@ module _ (os : List Order) (i : ℕ) (h : i < length os) (s : sound_order i (at 
   pub scanned_sell : is_standing o.life ≡ true → buys o.side ≡ false → Scanned os (i + 1) a (min l o.limit)
   scanned_sell st b =
       let w : (p : ℕ) → willing_at false p (bid_of o) ≡ cond (leb o.limit p) o.left 0 =
-      λ p. ap (λ x. cond (not x && leb o.limit p) (standing o) 0) b ∙ ap (λ x. cond (leb o.limit p) (cond x o.left 0) 0) st in
-      let v : (p : ℕ) → willing_at true p (bid_of o) ≡ 0 = λ p. ap (λ x. cond (x && leb p o.limit) (standing o) 0) b in
+      λ p. grind arith in
+      let v : (p : ℕ) → willing_at true p (bid_of o) ≡ 0 = λ p. grind arith in
       record {
         high = λ p g. omega (arith, open_more true p, v p, was.high p g);
         low = λ p g. omega (arith, open_more false p, was.low p (omega arith), w p, cond-false (leb o.limit p) o.left 0 (lt-leb o.limit p (omega arith)));
@@ -115,14 +106,10 @@ module _ (os : List Order) (i : ℕ) (h : i < length os) (s : sound_order i (at 
         sell = λ g. elim (cases_lt o.limit l) [
           | inl before ↦
               let e : min l o.limit ≡ o.limit = omega arith in
-              omega (
-                arith,
-                ap (open_of os (i + 1) false) e,
-                open_more false o.limit,
-                w o.limit,
-                cond-true (leb o.limit o.limit) o.left 0 (le-leb o.limit o.limit (omega arith)),
-                some_left i o s st,
-              )
+              let here = w o.limit in
+              let some = some_left i o s st in
+              let more = open_more false o.limit in
+              rw e (grind arith)
           | inr past ↦
               let e : min l o.limit ≡ l = omega arith in
               omega (arith, ap (open_of os (i + 1) false) e, open_more false l, was.sell (omega arith))
@@ -166,7 +153,5 @@ module _ (os : List Order) (a l : ℕ) (scanned : Scanned os (length os) a l) wh
   -- something can trade where a sell's limit is below the buys' bound
   pub scanned_all : ltb l a ≡ ltb 0 (uniform_volume os)
   scanned_all =
-      elim (cases_lt l a) [
-        | inl crossed ↦ lt-ltb l a crossed ∙ sym (lt-ltb 0 (uniform_volume os) (omega (arith, volume_standing highest_tick os, some crossed)))
-        | inr apart ↦ le-ltb l a apart ∙ sym (le-ltb 0 (uniform_volume os) (omega (arith, volume_standing highest_tick os, none apart)))
-      ]
+      let same = volume_standing highest_tick os in
+      elim (cases_lt l a) [ inl crossed ↦ let most = some crossed in grind arith | inr apart ↦ let shut = none apart in grind arith ]

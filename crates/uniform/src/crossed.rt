@@ -12,6 +12,7 @@ pub(crate) fn is_crossed(orders: &[Order]) -> bool
     requires { Sound orders.now (length orders.now) }
     ensures { result ≡ nat_lt 0 (uniform_volume orders.now) }
 {
+    // A chain that ends in `max` for each side was tried: what `max` answers of the filtered orders was not proved.
     let mut above_buys = 0;
     let mut lowest_sell = HIGHEST + 1;
     for order in orders {

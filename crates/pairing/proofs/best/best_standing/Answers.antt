@@ -1,5 +1,4 @@
-use Rattle.std.proofs.Common.{◌<◌, length, Some, None, ap, ◌∙◌, rules}
-use Rattle.ranking.specs.declared.OrderFields.{OrderFields}
+use Rattle.std.proofs.Common.{◌<◌, length, Some, None, rules}
 use Rattle.orders.specs.Orders.{buys}
 use Rattle.pairing.proofs.Bests.{best_found_by, found_in}
 use Rattle.pairing.proofs.best.best_standing.Goals as goal
@@ -24,7 +23,7 @@ returns g c =
     let made = g.met.Q.OrderQuote.from c.fields_of-order.result in
     record {
       place = best_found_by g.Q.Ranked.ahead g.Q.OrderQuote.made (buys c.args.side) c.args.orders.now _ (Some c.in_ok-place.place) c.find_best.ensures.is c.in_ok-place.was;
-      number = ap (λ (o : OrderFields). o.number) c.fields_of-order.ensures;
-      limit = c.limit.ensures ∙ ap g.Q.Quote.limit c.make-quote.ensures ∙ made.1 ∙ ap (λ (o : OrderFields). o.limit) c.fields_of-order.ensures;
-      left = c.left.ensures ∙ ap g.Q.Quote.left c.make-quote.ensures ∙ made.2 ∙ ap (λ (o : OrderFields). o.left) c.fields_of-order.ensures;
+      number = search rules;
+      limit = search rules;
+      left = search rules;
     }
