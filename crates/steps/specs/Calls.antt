@@ -19,8 +19,8 @@ use Rattle.steps.specs.declared.call.Outcome.{Outcome}
 use Rattle.steps.specs.declared.call.Status.{Status}
 use Rattle.steps.specs.declared.call.Call.{Call}
 use Rattle.steps.specs.declared.call.Call.TheVariants.{Place, Withdraw, Round}
-use Rattle.steps.specs.declared.call.Answer.{Answer}
-use Rattle.steps.specs.declared.call.Answer.TheVariants.{Accepted, Withdrawn, Cleared, Refused}
+use Rattle.steps.specs.declared.call.Reply.{Reply}
+use Rattle.steps.specs.declared.call.Reply.TheVariants.{Accepted, Withdrawn, Cleared}
 use Rattle.steps.specs.declared.refusal.Refusal.{Refusal}
 use Rattle.steps.specs.declared.refusal.Refusal.TheVariants.{Period, Reference, Member, Limit, Quantity, OtherSide, Numbers, Lines, NotGiven, NotOwned, NotStanding, NoSuchLine}
 use Rattle.steps.specs.declared.refusal.Refusal.TheVariants.{Kind as KindOf}
@@ -165,12 +165,16 @@ line_at i s = answered (first_no ((NoSuchLine, nat_lt i (length s.lines)) ∷ []
 
 -- ---- the step
 
-abbrev pub told : {A : Type 0} → (A → Answer) → Result A Refusal → Answer
-told answer (Ok x) = answer x
-told answer (Err question) = Refused question
+-- a reply, or why the call is refused
+abbrev pub Answer : Type 0
+Answer = Result Reply Refusal
+
+abbrev pub told : {A : Type 0} → (A → Reply) → Result A Refusal → Answer
+told reply (Ok x) = Ok (reply x)
+told reply (Err question) = Err question
 
 -- the answer to a call, and the session that it leaves
 abbrev pub step : Way → Session → Call → Answer × Session
 step w s (Place a) = (told Accepted (place w a s).0, (place w a s).1)
-step w s (Withdraw m n) = (told Withdrawn (withdraw m n s).0, (withdraw m n s).1)
-step w s Round = (Cleared (outcome w s), (round w s).1)
+step w s (Withdraw o) = (told Withdrawn (withdraw o.member o.number s).0, (withdraw o.member o.number s).1)
+step w s Round = (Ok (Cleared (outcome w s)), (round w s).1)
