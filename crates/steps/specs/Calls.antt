@@ -1,5 +1,6 @@
 -- The calls: what each answers, and the session that it leaves. A refused call leaves the session as it was.
 use Rattle.std.specs.Prelude.{ℕ, suc, ◌-◌, Bool, true, false, cond, not, ◌&&◌, ◌||◌, List, [], ◌∷◌, ◌++◌, length, Some, None, Ok, Err, Option, Result, ◌==◌, nat_le, nat_lt, slice_index_or}
+use Rattle.std.specs.List.{list_any}
 use Rattle.curves.specs.Orders.{willing, on, demand, supply}
 use Rattle.ticks.specs.Ticks.{highest_tick}
 use Rattle.orders.specs.declared.order.Ask.{Ask}
@@ -71,10 +72,6 @@ is_normal FillOrKill = false
 abbrev pub opposes : Ask → Order → Bool
 opposes a o = is_standing o.life && (o.member == a.member && on (not (buys a.side)) (bid_of o))
 
-abbrev pub some : {X : Type 0} → (X → Bool) → List X → Bool
-some p [] = false
-some p (x ∷ xs) = p x || some p xs
-
 -- may the ask trade at once? A fill-or-kill order only if opposite quantity within its limit covers it
 abbrev pub may_trade : Kind → Ask → List Order → Bool
 may_trade Normal a os = true
@@ -96,7 +93,7 @@ ask_questions continuous a s =
     ∷ (Limit, nat_le a.limit highest_tick)
     ∷ (Quantity, nat_le least_quantity a.quantity && nat_le a.quantity most_quantity)
     ∷ (KindOf, is_normal a.kind || continuous)
-    ∷ (OtherSide, not (some (opposes a) s.orders))
+    ∷ (OtherSide, not (list_any (opposes a) s.orders))
     ∷ (Numbers, nat_lt (length s.orders) most_orders)
     ∷ []
 
