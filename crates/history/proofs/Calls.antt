@@ -1,5 +1,5 @@
 -- What each call does.
-use Rattle.std.proofs.Common.{◌≡◌, ℕ, suc, ◌+◌, ◌-◌, ◌<◌, ◌≤◌, Bool, true, false, cond, eqb, ltb, List, [], ◌∷◌, ◌++◌, length, fold, sum_by, sym, refl, ap, ◌∙◌, arith}
+use Rattle.std.proofs.Common.{◌≡◌, ℕ, suc, ◌+◌, ◌-◌, ◌<◌, ◌≤◌, Bool, true, false, cond, eqb, ltb, List, [], ◌∷◌, ◌++◌, length, Ok, Err, fold, sum_by, sym, refl, ap, ◌∙◌, arith}
 use Rattle.std.proofs.lemmas.List.{get_or_push}
 use Rattle.std.proofs.ByRecursion.{All-weaker}
 use Rattle.std.proofs.lemmas.Bool.{cond_both}
@@ -18,14 +18,14 @@ use Rattle.orders.specs.Changes.{new_order}
 use Rattle.orders.proofs.Sifts.{sum_ranked, ranked_all, length_ranked}
 use Rattle.steps.specs.declared.call.Call.{Call}
 use Rattle.steps.specs.declared.call.Call.TheVariants.{Place, Withdraw, Round}
-use Rattle.steps.specs.declared.call.Answer.{Answer}
-use Rattle.steps.specs.declared.call.Answer.TheVariants.{Accepted, Withdrawn, Cleared, Refused}
+use Rattle.steps.specs.declared.call.Reply.TheVariants.{Accepted, Withdrawn, Cleared}
+use Rattle.steps.specs.declared.call.OrderRef.{OrderRef}
 use Rattle.steps.specs.declared.call.Acceptance.{Acceptance}
 use Rattle.steps.specs.declared.refusal.Refusal.{Refusal}
 use Rattle.steps.specs.declared.refusal.Refusal.TheVariants.{Lines}
 use Rattle.steps.specs.Pairing.{Pairs, pair_lines}
 use Rattle.steps.specs.Ways.{Way, Uniform, Paired, Continuous, PairsLaw, Laws, round_lines, place_lines}
-use Rattle.steps.specs.Calls.{may_trade, with_ask, closed, acceptance, withdrawn, outcome, round}
+use Rattle.steps.specs.Calls.{Answer, may_trade, with_ask, closed, acceptance, withdrawn, outcome, round}
 use Rattle.history.specs.Fairness.{of_order, Kept}
 use Rattle.history.specs.Histories.{Event, event_of, withdraws, BestIfRound, Awarded, IfAccepted, Apart}
 use Rattle.history.proofs.Orders.{Good, Like, like_itself, like_chain, kept_like, Ends, kill_ends, withdraw_ends, changed_field, changed_long, changed_good, like_changed, ended_standing, push_long, push_good, push_like, push_figure}
@@ -78,13 +78,13 @@ owing_place (Continuous rules) laws os g few = owing_pairs rules laws os g few
 
 -- ---- a refusal
 
-none_accepted : (P : Ask → Acceptance → Type 0) (c : Call) (q : Refusal) → IfAccepted P c (Refused q)
+none_accepted : (P : Ask → Acceptance → Type 0) (c : Call) (q : Refusal) → IfAccepted P c (Err q)
 none_accepted P (Place a) q = tt
-none_accepted P (Withdraw m n) q = tt
+none_accepted P (Withdraw o) q = tt
 none_accepted P Round q = tt
 
-pub refused_steps : (w : Way) (s : Session) (c : Call) (q : Refusal) → Sane s → BestIfRound c (event_of s c (Refused q, s)) → (q ≡ Lines → ⊥) →
-    Stepped w s (event_of s c (Refused q, s)) s
+pub refused_steps : (w : Way) (s : Session) (c : Call) (q : Refusal) → Sane s → BestIfRound c (event_of s c (Err q, s)) → (q ≡ Lines → ⊥) →
+    Stepped w s (event_of s c (Err q, s)) s
 refused_steps w s c q i award other = record {
   sane = i;
   lasts = refl;
@@ -110,9 +110,10 @@ apart_ended (Continuous rules) e ends os j l h = stood_uncrossed os (changed j e
 
 -- ---- withdraw
 
-pub withdraw_steps : (w : Way) (s : Session) (m n : ℕ) → Sane s → 1 ≤ n → n ≤ length s.orders →
-    Stepped w s (event_of s (Withdraw m n) (Withdrawn (withdrawn n s).0, (withdrawn n s).1)) (withdrawn n s).1
-withdraw_steps w s m n i low high =
+pub withdraw_steps : (w : Way) (s : Session) (o : OrderRef) → Sane s → 1 ≤ o.number → o.number ≤ length s.orders →
+    Stepped w s (event_of s (Withdraw o) (Ok (Withdrawn (withdrawn o.number s).0), (withdrawn o.number s).1)) (withdrawn o.number s).1
+withdraw_steps w s o i low high =
+    let n = o.number in
     let os = s.orders in
     let j = n - 1 in
     let l : j < length os = omega arith in
@@ -136,7 +137,7 @@ withdraw_steps w s m n i low high =
 -- ---- round
 
 abbrev round_event : Way → Session → Event
-round_event w s = event_of s Round (Cleared (outcome w s), (round w s).1)
+round_event w s = event_of s Round (Ok (Cleared (outcome w s)), (round w s).1)
 
 round_awarded : (w : Way) → Laws w → (s : Session) → Sane s → Awarded w (round_event w s)
 round_awarded (Uniform price share reference) laws s i = (fair_next (Uniform price share reference) laws s i).best
@@ -224,7 +225,7 @@ module _ (w : Way) (laws : Laws w) (a : Ask) (s : Session) (i : Sane s) (passed 
     new_in = omega (arith, push_long os new, place_settles.long)
 
     abbrev left_by : List Order → ℕ → Answer × Session
-    left_by qs x = (Accepted (record { number = suc n; killed = x }), with_orders qs (settled ls (with_orders ns s)))
+    left_by qs x = (Ok (Accepted (record { number = suc n; killed = x })), with_orders qs (settled ls (with_orders ns s)))
 
     -- whatever of the new order is then killed
     closes : (qs : List Order) (x : ℕ) → Good qs → length qs ≡ length ps → Like ps qs → ((k : ℕ) → (at qs k).placed ≡ (at ps k).placed) →
@@ -298,7 +299,7 @@ module _ (w : Way) (laws : Laws w) (a : Ask) (s : Session) (i : Sane s) (passed 
       (closed kind (length s.orders)
       (settled (cond (may_trade kind a s.orders) (place_lines w (with_ask a s.orders)) []) (with_orders (with_ask a s.orders) s)))
 
-  pub place_steps : (kind : Kind) → Stepped w s (event_of s (Place a) (Accepted (placed_as kind).0, (placed_as kind).1)) (placed_as kind).1
+  pub place_steps : (kind : Kind) → Stepped w s (event_of s (Place a) (Ok (Accepted (placed_as kind).0), (placed_as kind).1)) (placed_as kind).1
   place_steps Normal = stands_on w laws a s i passed true (λ _. apart_traded w laws (with_ask a s.orders) (new_good w laws a s i passed))
   place_steps FillAndKill = is_killed w laws a s i passed true (apart_killed true)
   place_steps FillOrKill = let b = may_trade FillOrKill a s.orders in is_killed w laws a s i passed b (apart_killed b)

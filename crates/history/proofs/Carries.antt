@@ -1,5 +1,5 @@
 -- From what one call does to what all calls have done.
-use Rattle.std.proofs.Common.{◌≡◌, ℕ, suc, ◌+◌, ◌-◌, ◌≤◌, cond, ltb, List, [], ◌++◌, length, sum_by, sym, ap, ◌∙◌, subst, arith}
+use Rattle.std.proofs.Common.{◌≡◌, ℕ, suc, ◌+◌, ◌-◌, ◌≤◌, cond, ltb, List, [], ◌++◌, length, Ok, Err, sum_by, sym, ap, ◌∙◌, subst, arith}
 use Rattle.std.specs.List.{AllByRecursion}
 use Rattle.std.proofs.lemmas.List.{flat_map_more}
 use Rattle.std.proofs.lemmas.List.Sums.{sum_by-append, sum_by_push}
@@ -13,10 +13,9 @@ use Rattle.orders.specs.Settlement.{Session, member_places}
 use Rattle.steps.specs.declared.call.Acceptance.{Acceptance}
 use Rattle.steps.specs.declared.call.Call.{Call}
 use Rattle.steps.specs.declared.call.Call.TheVariants.{Place, Withdraw, Round}
-use Rattle.steps.specs.declared.call.Answer.{Answer}
-use Rattle.steps.specs.declared.call.Answer.TheVariants.{Accepted, Withdrawn, Cleared, Refused}
+use Rattle.steps.specs.declared.call.Reply.TheVariants.{Accepted, Withdrawn, Cleared}
 use Rattle.steps.specs.Ways.{Way, Uniform, Paired, Continuous, Laws}
-use Rattle.steps.specs.Calls.{round}
+use Rattle.steps.specs.Calls.{Answer, round}
 use Rattle.history.specs.Fairness.{of_order, pays_of, gets_of, Kept, Accounted, Fair}
 use Rattle.history.specs.Histories.{Event, History, event_of, more, gives, asked_for, killed_for, withdrawn_for, all_lines, Awarded, IfAccepted, AsAsked, Asked, Whole, Roomy, Apart, Holds}
 use Rattle.history.proofs.Orders.{Good, Like, kept_like}
@@ -54,11 +53,11 @@ fair_next (Continuous rules) laws s i = tt
 -- ---- what was accepted
 
 accepted_weaker : (P Q : Ask → Acceptance → Type 0) → ((a : Ask) (x : Acceptance) → P a x → Q a x) → (c : Call) (r : Answer) → IfAccepted P c r → IfAccepted Q c r
-accepted_weaker P Q f (Place a) (Accepted x) h = f a x h
-accepted_weaker P Q f (Place a) (Withdrawn q) h = tt
-accepted_weaker P Q f (Place a) (Cleared o) h = tt
-accepted_weaker P Q f (Place a) (Refused q) h = tt
-accepted_weaker P Q f (Withdraw m n) r h = tt
+accepted_weaker P Q f (Place a) (Ok (Accepted x)) h = f a x h
+accepted_weaker P Q f (Place a) (Ok (Withdrawn q)) h = tt
+accepted_weaker P Q f (Place a) (Ok (Cleared o)) h = tt
+accepted_weaker P Q f (Place a) (Err q) h = tt
+accepted_weaker P Q f (Withdraw o) r h = tt
 accepted_weaker P Q f Round r h = tt
 
 -- an order that is as it was asked for stays so

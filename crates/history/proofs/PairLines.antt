@@ -1,5 +1,5 @@
 -- The lines of a pairing: they fit, come in pairs, even out, leave nothing that could trade, and are few.
-use Rattle.std.proofs.Common.{◌≡◌, ℕ, zero, suc, ◌+◌, ◌-◌, ◌*◌, ◌≤◌, true, false, cond, ltb, List, [], ◌∷◌, length, Some, None, fold, sum_by, count_by, sym, refl, ap, ◌∙◌, inl, inr, arith}
+use Rattle.std.proofs.Common.{◌≡◌, ℕ, suc, ◌+◌, ◌-◌, ◌*◌, ◌≤◌, true, false, cond, ltb, List, [], ◌∷◌, length, fold, sum_by, count_by, refl, ap, ◌∙◌, inl, inr, arith}
 use Rattle.std.proofs.lemmas.List.Sums.{sum_by-cons, sum_by-set, count_by-le-length}
 use Rattle.std.proofs.lemmas.Bool.{cases_lt, cond_both, cond-true, cond-false, lt-ltb, le-ltb}
 use Rattle.rules.specs.Pairs.{PairLaw}
@@ -8,13 +8,13 @@ use Rattle.orders.specs.declared.order.Line.{Line}
 use Rattle.orders.specs.Orders.{most_orders, buys, at, no_order, standing, filled_by}
 use Rattle.orders.specs.Settlement.{place_of, fill, worth, bill, credit}
 use Rattle.orders.specs.Kept.{most_lines}
-use Rattle.steps.specs.Pairing.{Pairs, best_pair, buy_line, sell_line, after_pair, lines_of_pair, pair_lines_from, pair_lines, Uncrossed}
+use Rattle.steps.specs.Pairing.{Pairs, buy_line, sell_line, after_pair, pair_lines_from, pair_lines, Uncrossed}
 use Rattle.steps.specs.Ways.{PairsLaw}
 use Rattle.history.specs.Fairness.{on_side, Trade, InPairs}
 use Rattle.history.proofs.Orders.{Good, filled_standing}
 use Rattle.history.proofs.Fills.{Fit, Fits}
-use Rattle.history.proofs.Bests.{Pair, best_pair_stands, no_pair_uncrossed}
-use Rattle.history.proofs.Trades.{buy_fits, sell_fits, buy_place, sell_place, sell_left, traded, traded_less, traded_good, pairing}
+use Rattle.history.proofs.Bests.{Pair, no_pair_uncrossed}
+use Rattle.history.proofs.Trades.{buy_fits, sell_fits, buy_place, sell_place, sell_left, traded, pairing}
 
 -- ---- lines that come in pairs
 
@@ -128,46 +128,3 @@ module _ (rules : Pairs) (laws : PairsLaw rules) where
   pub pair_lines_most : (os : List Order) → Good os → length os ≤ most_orders → length (pair_lines rules os) ≤ most_lines
   pair_lines_most os g l =
       omega (arith, pair_lines_few (sum_by standing os) 0 os g (omega arith), count_by-le-length (λ (o : Order). ltb 0 (standing o)) os)
-
-  -- ---- one trade more
-
-  lines_end : (m i : ℕ) (os : List Order) → best_pair rules os ≡ None → [] ≡ pair_lines_from rules m i os
-  lines_end zero i os e = refl
-  lines_end (suc m) i os e =
-      sym (ap (λ o. lines_of_pair o (λ p. buy_line rules os i p ∷ sell_line rules os i p ∷ pair_lines_from rules m (suc (suc i)) (after_pair rules os i p))) e)
-
-  lines_trade : (m i : ℕ) (os : List Order) (p : ℕ × ℕ) → best_pair rules os ≡ Some p →
-      pair_lines_from rules (suc m) i os ≡ buy_line rules os i p ∷ sell_line rules os i p ∷ pair_lines_from rules m (suc (suc i)) (after_pair rules os i p)
-  lines_trade m i os p e =
-      ap (λ o. lines_of_pair o (λ p. buy_line rules os i p ∷ sell_line rules os i p ∷ pair_lines_from rules m (suc (suc i)) (after_pair rules os i p))) e
-
-  -- more turns than units that stand make no more lines
-  pub pair_lines_enough : (n i : ℕ) (os : List Order) → Good os → sum_by standing os ≤ n →
-      (m : ℕ) → sum_by standing os ≤ m → pair_lines_from rules n i os ≡ pair_lines_from rules m i os
-  pair_lines_enough =
-      pairing rules laws (λ i os ls. (m : ℕ) → sum_by standing os ≤ m → ls ≡ pair_lines_from rules m i os) (λ i os g e m le. lines_end m i os e)
-      (λ i os p ls g e h later. more i os p ls g e h later)
-    where
-      more : (i : ℕ) (os : List Order) (p : ℕ × ℕ) (ls : List Line) → Good os → best_pair rules os ≡ Some p → Pair os p →
-          ((m : ℕ) → sum_by standing (after_pair rules os i p) ≤ m → ls ≡ pair_lines_from rules m (suc (suc i)) (after_pair rules os i p)) →
-          (m : ℕ) → sum_by standing os ≤ m → buy_line rules os i p ∷ sell_line rules os i p ∷ ls ≡ pair_lines_from rules m i os
-      more i os p ls g e h later zero le = absurd (omega (arith, traded_less rules laws.2 os i p g h))
-      more i os p ls g e h later (suc m) le =
-          ap (λ z. buy_line rules os i p ∷ sell_line rules os i p ∷ z) (later m (omega (arith, traded_less rules laws.2 os i p g h)))
-          ∙ sym (lines_trade m i os p e)
-
-  -- the lines from i on, where the best pair is p: its two, and those of what its trade leaves
-  pub pair_lines_more : (i : ℕ) (os : List Order) (p : ℕ × ℕ) → Good os → best_pair rules os ≡ Some p →
-      pair_lines_from rules (sum_by standing os) i os
-      ≡ buy_line rules os i p ∷ sell_line rules os i p ∷ pair_lines_from rules (sum_by standing (after_pair rules os i p)) (suc (suc i)) (after_pair rules os i p)
-  pair_lines_more i os p g e =
-      let h = best_pair_stands rules laws os g p e in
-      let zs = after_pair rules os i p in
-      pair_lines_enough (sum_by standing os) i os g (omega arith) (suc (sum_by standing os)) (omega arith)
-      ∙ lines_trade (sum_by standing os) i os p e
-      ∙ ap (λ z. buy_line rules os i p ∷ sell_line rules os i p ∷ z)
-      (pair_lines_enough (sum_by standing os) (suc (suc i)) zs (traded_good rules laws.2 os i p g h) (omega (arith, traded_less rules laws.2 os i p g h))
-      (sum_by standing zs) (omega arith))
-
-  pub pair_lines_end : (i : ℕ) (os : List Order) → best_pair rules os ≡ None → pair_lines_from rules (sum_by standing os) i os ≡ []
-  pair_lines_end i os e = sym (lines_end (sum_by standing os) i os e)

@@ -1,5 +1,5 @@
 -- What the questions of a call leave: its step.
-use Rattle.std.proofs.Common.{◌≡◌, ℕ, zero, suc, true, false, eqb, leb, List, [], ◌∷◌, length, take, drop, Some, None, Option, sym, refl, ap, ◌∙◌, arith}
+use Rattle.std.proofs.Common.{◌≡◌, ℕ, zero, suc, true, false, eqb, leb, List, [], ◌∷◌, length, take, drop, Some, None, Ok, Err, Option, sym, refl, ap, ◌∙◌, arith}
 use Rattle.std.specs.List.{AllByRecursion}
 use Rattle.std.proofs.lemmas.Bool.{cond_both, cond-true, both_ways, and_parts, leb-true, ltb-true, le-leb}
 use Rattle.ticks.specs.Ticks.{highest_tick}
@@ -11,14 +11,14 @@ use Rattle.orders.specs.Settlement.{Session}
 use Rattle.orders.specs.Kept.{most_lines}
 use Rattle.steps.specs.declared.call.Call.{Call}
 use Rattle.steps.specs.declared.call.Call.TheVariants.{Place, Withdraw, Round}
-use Rattle.steps.specs.declared.call.Answer.{Answer}
-use Rattle.steps.specs.declared.call.Answer.TheVariants.{Accepted, Withdrawn, Refused}
+use Rattle.steps.specs.declared.call.Reply.{Reply}
+use Rattle.steps.specs.declared.call.Reply.TheVariants.{Accepted, Withdrawn}
 use Rattle.steps.specs.declared.refusal.Refusal.{Refusal}
 use Rattle.steps.specs.declared.refusal.Refusal.TheVariants.{Member, Limit, Quantity, OtherSide, Numbers, Lines, NotGiven, NotOwned, NotStanding}
 use Rattle.steps.specs.declared.refusal.Refusal.TheVariants.{Kind as KindOf}
 use Rattle.steps.specs.Refusals.{number_of, Asked, first_no}
 use Rattle.steps.specs.Ways.{Way, Laws}
-use Rattle.steps.specs.Calls.{made, told, place_questions, lines_of_place, may_trade, placed, withdraw_questions, withdrawn, step}
+use Rattle.steps.specs.Calls.{Answer, made, told, place_questions, lines_of_place, may_trade, placed, withdraw_questions, withdrawn, step}
 use Rattle.history.specs.Histories.{event_of, WholeIf, Whole, Apart}
 use Rattle.history.proofs.Wholes.{whole_lines}
 use Rattle.history.proofs.Carries.{Sane, Stepped}
@@ -73,23 +73,25 @@ never_lines w laws a s i e =
     omega arith
 
 -- an answer is that of the call, or that of its first no
-answers : {A : Type 0} (o : Option Refusal) (answer : A → Answer) (r : A × Session) (s : Session) (P : Answer × Session → Type 0) →
-    (o ≡ None → P (answer r.0, r.1)) → ((q : Refusal) → o ≡ Some q → P (Refused q, s)) → P (told answer (made o r s).0, (made o r s).1)
-answers None answer r s P accept refuse = accept refl
-answers (Some q) answer r s P accept refuse = refuse q refl
+answers : {A : Type 0} (o : Option Refusal) (reply : A → Reply) (r : A × Session) (s : Session) (P : Answer × Session → Type 0) →
+    (o ≡ None → P (Ok (reply r.0), r.1)) → ((q : Refusal) → o ≡ Some q → P (Err q, s)) → P (told reply (made o r s).0, (made o r s).1)
+answers None reply r s P accept refuse = accept refl
+answers (Some q) reply r s P accept refuse = refuse q refl
 
 pub stepped : (w : Way) → Laws w → (s : Session) → Sane s → (c : Call) → Stepped w s (event_of s c (step w s c)) (step w s c).1
 stepped w laws s i (Place a) =
     answers (first_no (place_questions w a s)) Accepted (placed w a s) s (λ r. Stepped w s (event_of s (Place a) r) r.1)
     (λ e. place_steps w laws a s i (place_passes w a s None only_none e).0 a.kind)
     (λ q e. refused_steps w s (Place a) q i tt (λ l. never_lines w laws a s i (e ∙ ap Some l)))
-stepped w laws s i (Withdraw m n) =
-    answers (first_no (withdraw_questions s m n)) Withdrawn (withdrawn n s) s (λ r. Stepped w s (event_of s (Withdraw m n) r) r.1)
+stepped w laws s i (Withdraw o) =
+    let m = o.member in
+    let n = o.number in
+    answers (first_no (withdraw_questions s m n)) Withdrawn (withdrawn n s) s (λ r. Stepped w s (event_of s (Withdraw o) r) r.1)
     (λ e.
     let h = passes None 2 (withdraw_questions s m n) (only_none Member refl, (only_none NotGiven refl, tt)) e in
     let g = and_parts (leb 1 n) (leb n (length s.orders)) h.0.1.0 in
-    withdraw_steps w s m n i (leb-true 1 n g.0) (leb-true n (length s.orders) g.1))
-    (λ q e. refused_steps w s (Withdraw m n) q i tt (λ l.
+    withdraw_steps w s o i (leb-true 1 n g.0) (leb-true n (length s.orders) g.1))
+    (λ q e. refused_steps w s (Withdraw o) q i tt (λ l.
     let h = passes (Some Lines) 4 (withdraw_questions s m n)
     (only_lines Member refl, (only_lines NotGiven refl, (only_lines NotOwned refl, (only_lines NotStanding refl, tt)))) (e ∙ ap Some l) in
     let z : ◌≡◌ {A = ℕ} 0 1 = cc in
@@ -110,5 +112,5 @@ whole_steps w laws s i apart (Place a) =
     answers (first_no (place_questions w a s)) Accepted (placed w a s) s (λ r. Whole (event_of s (Place a) r))
     (λ e. whole_place w laws a s i (place_passes w a s None only_none e).0 apart a.kind)
     (λ q e. tt)
-whole_steps w laws s i apart (Withdraw m n) = tt
+whole_steps w laws s i apart (Withdraw o) = tt
 whole_steps w laws s i apart Round = tt

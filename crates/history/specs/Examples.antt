@@ -1,5 +1,5 @@
 -- Worked histories: a short continuous session, and a paired one.
-use Rattle.std.specs.Prelude.{◌≡◌, ℕ, true, false, List, [], ◌∷◌, map}
+use Rattle.std.specs.Prelude.{◌≡◌, ℕ, true, false, List, [], ◌∷◌, map, Ok, Err}
 use Rattle.ranking.specs.Orders.{continuous, paired}
 use Rattle.rules.specs.Pairs.{earlier_orders_price, half_the_sum}
 use Rattle.orders.specs.declared.order.Side.{Side}
@@ -9,10 +9,10 @@ use Rattle.orders.specs.declared.order.Kind.TheVariants.{Normal, FillAndKill, Fi
 use Rattle.orders.specs.Settlement.{account}
 use Rattle.steps.specs.declared.call.Call.{Call}
 use Rattle.steps.specs.declared.call.Call.TheVariants.{Place, Withdraw, Round}
-use Rattle.steps.specs.declared.call.Answer.{Answer}
-use Rattle.steps.specs.declared.call.Answer.TheVariants.{Accepted, Withdrawn, Cleared, Refused}
+use Rattle.steps.specs.declared.call.Reply.TheVariants.{Accepted, Withdrawn, Cleared}
 use Rattle.steps.specs.declared.refusal.Refusal.TheVariants.{Quantity, OtherSide, NotStanding}
 use Rattle.steps.specs.Ways.{Way, Paired, Continuous}
+use Rattle.steps.specs.Calls.{Answer}
 use Rattle.history.specs.Fairness.{pairs_of}
 use Rattle.history.specs.Histories.{Event, run}
 
@@ -22,7 +22,7 @@ asks member side kind quantity limit = Place (record { member = member; side = s
 
 -- an order is numbered, and so much of it is killed
 abbrev pub numbers : ℕ → ℕ → Answer
-numbers n killed = Accepted (record { number = n; killed = killed })
+numbers n killed = Ok (Accepted (record { number = n; killed = killed }))
 
 -- what a session of a period of 4 quarter-hours answers to calls
 abbrev pub answers_to : Way → List Call → List Answer
@@ -40,7 +40,7 @@ traded_at_once =
     ∷ asks 2 Buy Normal 99 300
     ∷ asks 3 Sell FillAndKill 500 350
     ∷ asks 4 Buy FillOrKill 500 350
-    ∷ Withdraw 1 1
+    ∷ Withdraw (record { member = 1; number = 1 })
     ∷ []
 
 -- the session that ships for pairing: larger orders first among equals, here at half the sum of the limits
@@ -55,13 +55,13 @@ paired_off =
     ∷ asks 1 Sell Normal 100 500
     ∷ asks 3 Sell Normal 400 301
     ∷ Round
-    ∷ Withdraw 1 1
+    ∷ Withdraw (record { member = 1; number = 1 })
     ∷ []
 
 pub record Examples : Type 0 where
   pub first : answers_to in_turn traded_at_once
-      ≡ numbers 1 0 ∷ numbers 2 0 ∷ Refused Quantity ∷ numbers 3 100 ∷ numbers 4 500 ∷ Refused NotStanding ∷ []
+      ≡ numbers 1 0 ∷ numbers 2 0 ∷ Err Quantity ∷ numbers 3 100 ∷ numbers 4 500 ∷ Err NotStanding ∷ []
   pub first_pays : (account (run in_turn 4 traded_at_once).session.accounts 1).pays ≡ 1600000
   pub second : answers_to by_size paired_off
-      ≡ numbers 1 0 ∷ numbers 2 0 ∷ Refused OtherSide ∷ numbers 3 0 ∷ Cleared (record { volume = 400; price = 0; members = 3 }) ∷ Withdrawn 100 ∷ []
+      ≡ numbers 1 0 ∷ numbers 2 0 ∷ Err OtherSide ∷ numbers 3 0 ∷ Ok (Cleared (record { volume = 400; price = 0; members = 3 })) ∷ Ok (Withdrawn 100) ∷ []
   pub second_gets : (account (run by_size 4 paired_off).session.accounts 3).gets ≡ 561600

@@ -1,5 +1,5 @@
 -- Histories of calls, and what holds after each.
-use Rattle.std.specs.Prelude.{◌≡◌, ℕ, suc, ◌+◌, ◌-◌, ◌≤◌, Bool, false, cond, ◌⊎◌, List, [], ◌∷◌, ◌++◌, length, fold, sum_by, count_by, ◌==◌, nat_lt}
+use Rattle.std.specs.Prelude.{◌≡◌, ℕ, suc, ◌+◌, ◌-◌, ◌≤◌, Bool, false, cond, ◌⊎◌, List, [], ◌∷◌, ◌++◌, length, Ok, Err, fold, sum_by, count_by, ◌==◌, nat_lt}
 use Rattle.std.specs.List.{flat_map, AllByRecursion}
 use Rattle.curves.specs.Allotments.{Best}
 use Rattle.orders.specs.declared.order.Ask.{Ask}
@@ -14,13 +14,12 @@ use Rattle.orders.specs.Kept.{most_lines}
 use Rattle.steps.specs.declared.call.Call.{Call}
 use Rattle.steps.specs.declared.call.Call.TheVariants.{Place, Withdraw, Round}
 use Rattle.steps.specs.declared.call.Acceptance.{Acceptance}
-use Rattle.steps.specs.declared.call.Answer.{Answer}
-use Rattle.steps.specs.declared.call.Answer.TheVariants.{Accepted, Withdrawn, Cleared, Refused}
+use Rattle.steps.specs.declared.call.Reply.TheVariants.{Accepted, Withdrawn, Cleared}
 use Rattle.steps.specs.declared.refusal.Refusal.TheVariants.{Lines}
 use Rattle.steps.specs.Uniform.{standing_of}
 use Rattle.steps.specs.Pairing.{Uncrossed}
 use Rattle.steps.specs.Ways.{Way, Uniform, Paired, Continuous, Laws}
-use Rattle.steps.specs.Calls.{step, round}
+use Rattle.steps.specs.Calls.{Answer, step, round}
 use Rattle.history.specs.Fairness.{of_order, pays_of, gets_of, award_of, Kept, Fair}
 
 -- a call, its answer, the lines that it made, and the orders that stood before it
@@ -37,10 +36,8 @@ pub record History : Type 0 where
 
 -- the lines of a call, where it leaves these: a refused call makes none
 abbrev pub lines_made : Answer → List Line → List Line
-lines_made (Accepted a) ls = ls
-lines_made (Withdrawn q) ls = ls
-lines_made (Cleared o) ls = ls
-lines_made (Refused q) ls = []
+lines_made (Ok reply) ls = ls
+lines_made (Err question) ls = []
 
 -- the event of a call to a session, by its answer and the session that it leaves
 abbrev pub event_of : Session → Call → Answer × Session → Event
@@ -66,36 +63,36 @@ run w period cs = fold (called w) (opened period) cs
 
 -- does the answer give the number n?
 abbrev pub gives : Answer → ℕ → Bool
-gives (Accepted a) n = a.number == n
-gives (Withdrawn q) n = false
-gives (Cleared o) n = false
-gives (Refused q) n = false
+gives (Ok (Accepted a)) n = a.number == n
+gives (Ok (Withdrawn q)) n = false
+gives (Ok (Cleared o)) n = false
+gives (Err question) n = false
 
 -- does the call withdraw the order numbered n?
 abbrev pub withdraws : Call → ℕ → Bool
 withdraws (Place a) n = false
-withdraws (Withdraw m k) n = k == n
+withdraws (Withdraw o) n = o.number == n
 withdraws Round n = false
 
 -- the quantity that a place names
 abbrev pub asked_in : Call → ℕ
 asked_in (Place a) = a.quantity
-asked_in (Withdraw m k) = 0
+asked_in (Withdraw o) = 0
 asked_in Round = 0
 
 -- the quantity that a place answers as killed
 abbrev pub killed_in : Answer → ℕ
-killed_in (Accepted a) = a.killed
-killed_in (Withdrawn q) = 0
-killed_in (Cleared o) = 0
-killed_in (Refused q) = 0
+killed_in (Ok (Accepted a)) = a.killed
+killed_in (Ok (Withdrawn q)) = 0
+killed_in (Ok (Cleared o)) = 0
+killed_in (Err question) = 0
 
 -- the quantity that a withdraw answers
 abbrev pub withdrawn_in : Answer → ℕ
-withdrawn_in (Accepted a) = 0
-withdrawn_in (Withdrawn q) = q
-withdrawn_in (Cleared o) = 0
-withdrawn_in (Refused q) = 0
+withdrawn_in (Ok (Accepted a)) = 0
+withdrawn_in (Ok (Withdrawn q)) = q
+withdrawn_in (Ok (Cleared o)) = 0
+withdrawn_in (Err question) = 0
 
 -- what an event says was named for the order numbered n
 abbrev pub asked_for : ℕ → Event → ℕ
@@ -136,7 +133,7 @@ filled_of h n = sum_by (of_order n) (all_lines h)
 -- what a round's lines give is a best allotment of the orders that stood
 abbrev pub BestIfRound : Call → Event → Type 0
 BestIfRound (Place a) e = Unit {0}
-BestIfRound (Withdraw m n) e = Unit {0}
+BestIfRound (Withdraw o) e = Unit {0}
 BestIfRound Round e = Best (bids_of e.before) (award_of e.before e.lines)
 
 -- so it is in uniform sessions
@@ -147,11 +144,11 @@ Awarded (Continuous rules) e = Unit {0}
 
 -- what holds of an ask and its acceptance, if the call is a place that is accepted
 abbrev pub IfAccepted : (Ask → Acceptance → Type 0) → Call → Answer → Type 0
-IfAccepted P (Place a) (Accepted x) = P a x
-IfAccepted P (Place a) (Withdrawn q) = Unit {0}
-IfAccepted P (Place a) (Cleared o) = Unit {0}
-IfAccepted P (Place a) (Refused q) = Unit {0}
-IfAccepted P (Withdraw m n) r = Unit {0}
+IfAccepted P (Place a) (Ok (Accepted x)) = P a x
+IfAccepted P (Place a) (Ok (Withdrawn q)) = Unit {0}
+IfAccepted P (Place a) (Ok (Cleared o)) = Unit {0}
+IfAccepted P (Place a) (Err question) = Unit {0}
+IfAccepted P (Withdraw o) r = Unit {0}
 IfAccepted P Round r = Unit {0}
 
 -- the order numbered n is of the member, on the side and at the limit that was asked for
@@ -179,7 +176,7 @@ Whole e = IfAccepted (λ a x. WholeIf a.kind x.number a.quantity e.lines) e.call
 -- the lines of a call fit the places for them, and no call is refused for want of such places
 pub record Roomy (e : Event) : Type 0 where
   pub fits : length e.lines ≤ most_lines
-  pub never : e.answer ≡ Refused Lines → ⊥
+  pub never : e.answer ≡ Err Lines → ⊥
 
 -- ---- what holds of a history
 

@@ -1,4 +1,4 @@
--- The calls of a continuous session, among all calls.
+-- The calls that are no rounds, among all calls.
 use Rattle.steps.specs.declared.call.Call.{Call}
 use Rattle.steps.specs.declared.call.Call.TheVariants.{Place as PlaceCall, Withdraw as WithdrawCall}
 use Rattle.replay.specs.declared.Deal.{Deal}
@@ -6,4 +6,4 @@ use Rattle.replay.specs.declared.Deal.TheVariants.{Place, Withdraw}
 
 abbrev pub call_of : Deal → Call
 call_of (Place ask) = PlaceCall ask
-call_of (Withdraw member number) = WithdrawCall member number
+call_of (Withdraw order) = WithdrawCall order

@@ -4,48 +4,42 @@
 
 ghost use Rattle.std.specs.Prelude.{◌≡◌, map};
 ghost use Rattle.orders.specs.Held.{session_of};
-ghost use Rattle.pairing.specs.Quotes.{pairs_of};
-ghost use Rattle.steps.specs.Ways.{Continuous as ContinuousWay};
 ghost use Rattle.steps.specs.Calls.{step};
 ghost use Rattle.history.specs.Histories.{run, Holds};
 ghost use Rattle.replay.specs.Deals.{call_of};
 
-use history::continuous_sessions_hold;
+use history::{continuous_sessions_hold, every_history_holds};
 use orders::order::Ask;
-use ranking::{OrderQuote, Ranked, Ranking};
+use ranking::Ranking;
 use rules::pair::PairPrice;
 use session::auction::Auction;
 use session::batch::Taking;
-use session::continuous::Continuous;
+use session::continuous::{AtOnce, Continuous, ContinuousRules};
+use session::market::{Market, TakesOrders};
 use session::opening::Opening;
-use steps::call::Call;
+use steps::call::{Call, OrderRef};
 
 /// Makes one call. A round is shut, awarded and carried over; a refused call leaves the session as it was.
 pub fn make<A: Auction>(session: Taking<A>, call: Call) -> Taking<A>
-    ensures session { session_of result.tables ≡ (step (A.Auction.way session.auction) (session_of session.tables) call).1 }
-    ensures rules { result.auction ≡ session.auction }
+    ensures session { session_of result.tables ≡ (step (A.Auction.way session.rules) (session_of session.tables) call).1 }
+    ensures rules { result.rules ≡ session.rules }
 {
     let mut session = session;
     match call {
-        Call::Place(ask) => {
-            let _ = session.place(ask);
-            session
-        }
-        Call::Withdraw { member, number } => {
-            let _ = session.withdraw(member, number);
-            session
-        }
-        Call::Round => session.shut().award().carry_over(),
+        Call::Place(ask) => make_deal(&mut session, Deal::Place(ask)),
+        Call::Withdraw(order) => make_deal(&mut session, Deal::Withdraw(order)),
+        Call::Round => session = session.shut().award().carry_over(),
     }
+    session
 }
 
 /// Opens a batch session and makes the calls, whatever its rules.
 pub fn replay<A: Auction>(figures: Opening, auction: A, calls: &[Call]) -> Taking<A>
     ensures run { session_of result.tables ≡ (run (A.Auction.way auction) figures.period.quarters calls.now).session }
-    ensures rules { result.auction ≡ auction }
+    ensures rules { result.rules ≡ auction }
     ensures holds { Holds (A.Auction.way auction) figures.period.quarters (run (A.Auction.way auction) figures.period.quarters calls.now) }
 {
-    auction.vouch();
+    every_history_holds();
     let mut session = Taking::open(figures, auction);
     for call in calls {
         session = make(session, *call);
@@ -53,24 +47,24 @@ pub fn replay<A: Auction>(figures: Opening, auction: A, calls: &[Call]) -> Takin
     session
 }
 
-/// A call of a continuous session, which has no rounds.
-#[derive(Clone, Copy)]
+/// A call that is no round, as all calls of a continuous session are.
+#[derive(Clone, Copy, PartialEq, Eq, Debug)]
 pub enum Deal {
     Place(Ask),
-    Withdraw { member: u8, number: u16 },
+    Withdraw(OrderRef),
 }
 
-/// Makes one call of a continuous session. A refused call leaves it as it was.
-pub fn make_deal<R: Ranking, P: PairPrice>(session: &mut Continuous<R, P>, deal: Deal)
-    ensures session { session_of session.new.tables ≡ (step (ContinuousWay (pairs_of R.Buy.Ranked.ahead R.Buy.OrderQuote.made R.Sell.Ranked.ahead R.Sell.OrderQuote.made P.PairPrice.meaning)) (session_of session.old.tables) (call_of deal)).1 }
-    ensures rules { session.new.price ≡ session.old.price }
+/// Makes one call that is no round. A refused call leaves the session as it was.
+pub fn make_deal<W, S: TakesOrders<W>>(session: &mut Market<W, S>, deal: Deal)
+    ensures session { session_of session.new.tables ≡ (step (S.TakesOrders.way session.old.rules) (session_of session.old.tables) (call_of deal)).1 }
+    ensures rules { session.new.rules ≡ session.old.rules }
 {
     match deal {
         Deal::Place(ask) => {
             let _ = session.place(ask);
         }
-        Deal::Withdraw { member, number } => {
-            let _ = session.withdraw(member, number);
+        Deal::Withdraw(order) => {
+            let _ = session.withdraw(order);
         }
     }
 }
@@ -81,10 +75,11 @@ pub fn replay_continuous<R: Ranking, P: PairPrice>(
     price: P,
     deals: &[Deal],
 ) -> Continuous<R, P>
-    ensures run { session_of result.tables ≡ (run (ContinuousWay (pairs_of R.Buy.Ranked.ahead R.Buy.OrderQuote.made R.Sell.Ranked.ahead R.Sell.OrderQuote.made P.PairPrice.meaning)) figures.period.quarters (map call_of deals.now)).session }
-    ensures rules { result.price ≡ price }
-    ensures holds { Holds (ContinuousWay (pairs_of R.Buy.Ranked.ahead R.Buy.OrderQuote.made R.Sell.Ranked.ahead R.Sell.OrderQuote.made P.PairPrice.meaning)) figures.period.quarters (run (ContinuousWay (pairs_of R.Buy.Ranked.ahead R.Buy.OrderQuote.made R.Sell.Ranked.ahead R.Sell.OrderQuote.made P.PairPrice.meaning)) figures.period.quarters (map call_of deals.now)) }
+    ensures run { session_of result.tables ≡ (run (⟦<AtOnce as TakesOrders<ContinuousRules<R, P>>>⟧.way result.rules) figures.period.quarters (map call_of deals.now)).session }
+    ensures rules { result.rules.price ≡ price }
+    ensures holds { Holds (⟦<AtOnce as TakesOrders<ContinuousRules<R, P>>>⟧.way result.rules) figures.period.quarters (run (⟦<AtOnce as TakesOrders<ContinuousRules<R, P>>>⟧.way result.rules) figures.period.quarters (map call_of deals.now)) }
 {
+    // A loop of its own beside that of `replay`: a round moves a batch session through its states, a deal changes it in place.
     continuous_sessions_hold::<R, P>();
     let mut session = Continuous::open(figures, price);
     for deal in deals {

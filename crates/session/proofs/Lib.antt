@@ -1,2 +1,1 @@
-pub mod Somes
 pub mod Places

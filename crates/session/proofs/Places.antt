@@ -1,5 +1,6 @@
 -- A place, by its questions and by what it does.
-use Rattle.std.proofs.Common.{◌≡◌, ℕ, suc, ◌≤◌, Bool, true, false, cond, not, ◌&&◌, ◌||◌, ltb, leb, List, [], ◌∷◌, ◌++◌, length, Some, None, Ok, Err, Option, refl, ap, ◌∙◌, subst, arith}
+use Rattle.std.proofs.Common.{◌≡◌, ℕ, suc, ◌≤◌, Bool, true, false, cond, not, ◌&&◌, ◌||◌, ltb, leb, List, [], ◌∷◌, ◌++◌, length, Some, None, Ok, Err, Option, Result, sym, refl, ap, ◌∙◌, subst, arith}
+use Rattle.std.specs.List.{list_any}
 use Rattle.std.proofs.lemmas.Bool.{le-leb, leb-true}
 use Rattle.orders.specs.declared.order.Ask.{Ask}
 use Rattle.orders.specs.Settlement.{Session, settled, cleared, with_orders}
@@ -14,9 +15,9 @@ use Rattle.steps.specs.declared.refusal.Refusal.{Refusal}
 use Rattle.steps.specs.declared.refusal.Refusal.TheVariants.{Member, Limit, Quantity, OtherSide, Numbers, Lines}
 use Rattle.steps.specs.declared.refusal.Refusal.TheVariants.{Kind as KindOf}
 use Rattle.steps.specs.Refusals.{Asked, first_no}
-use Rattle.steps.specs.Pairing.{Pairs, pair_lines}
-use Rattle.steps.specs.Ways.{Way, Continuous, is_continuous}
-use Rattle.steps.specs.Calls.{made, is_member, is_normal, some, opposes, may_trade, with_ask, lines_of_place, ask_questions, closed, acceptance, placed, place}
+use Rattle.steps.specs.Ways.{Way, Uniform, Paired, Continuous, is_continuous, place_lines}
+use Rattle.session.specs.Entries.{entered}
+use Rattle.steps.specs.Calls.{made, is_member, is_normal, opposes, may_trade, with_ask, lines_of_place, ask_questions, closed, acceptance, placed, place}
 
 -- questions that are put in a row
 first_no_some : (xs ys : List Asked) (q : Refusal) → first_no xs ≡ Some q → first_no (xs ++ ys) ≡ Some q
@@ -35,10 +36,24 @@ first_no_none (x ∷ xs) ys e =
       | false ↦ λ h. let z : ◌≡◌ {A = ℕ} 0 1 = cc in absurd (omega arith)
     ] e
 
-pub place_refused : (w : Way) (a : Ask) (s : Session) (q : Refusal) → first_no (ask_questions (is_continuous w) a s) ≡ Some q →
-    place w a s ≡ (Err q, s)
-place_refused w a s q e =
-    ap (λ o. made o (placed w a s) s) (first_no_some (ask_questions (is_continuous w) a s) ((Lines, leb (length (lines_of_place w a s.orders)) most_lines) ∷ []) q e)
+-- what questions leave where one is answered no, and where all are answered yes
+made_refused : {A : Type 0} (o : Option Refusal) (x : A × Session) (r : Result A Refusal) (s t : Session) (q : Refusal) →
+    ◌≡◌ {A = Result A Refusal × Session} (r, t) (made o x s) → r ≡ Err q → (o ≡ Some q) × (t ≡ s)
+made_refused None x r s t q e is = grind arith
+made_refused (Some question) x r s t q e is = (grind arith, grind arith)
+
+pub made_accepted : {A : Type 0} (o : Option Refusal) (x : A × Session) (r : Result A Refusal) (s t : Session) (n : A) →
+    ◌≡◌ {A = Result A Refusal × Session} (r, t) (made o x s) → r ≡ Ok n → (o ≡ None) × (n ≡ x.0) × (t ≡ x.1)
+made_accepted None x r s t n e is = (refl, grind arith, grind arith)
+made_accepted (Some question) x r s t n e is = grind arith
+
+pub place_refused : (w : Way) (a : Ask) (b : Bool) (s t : Session) (r : Result ℕ Refusal) (q : Refusal) → is_continuous w ≡ b →
+    ◌≡◌ {A = Result ℕ Refusal × Session} (r, t) (entered b a s) → r ≡ Err q → ◌≡◌ {A = Result Acceptance Refusal × Session} (Err q, t) (place w a s)
+place_refused w a b s t r q way e is =
+    let (question, same) = made_refused (first_no (ask_questions b a s)) (suc (length s.orders), accepted a (cleared s)) r s t q e is in
+    let here : first_no (ask_questions (is_continuous w) a s) ≡ Some q = rw way question in
+    rw same
+    (sym (ap (λ o. made o (placed w a s) s) (first_no_some (ask_questions (is_continuous w) a s) ((Lines, leb (length (lines_of_place w a s.orders)) most_lines) ∷ []) q here)))
 
 pub place_accepted : (w : Way) (a : Ask) (s : Session) → first_no (ask_questions (is_continuous w) a s) ≡ None →
     length (lines_of_place w a s.orders) ≤ most_lines → place w a s ≡ (Ok (placed w a s).0, (placed w a s).1)
@@ -48,14 +63,14 @@ place_accepted w a s e few =
     ap (λ o. made o (placed w a s) s) (first_no_none (ask_questions (is_continuous w) a s) room e ∙ yes-room)
 
 -- an ask that is numbered, and then trades if it may
-pub entered : (rules : Pairs) (a : Ask) (s t u : Session) (b : Bool) → b ≡ may_trade a.kind a s.orders → t ≡ accepted a (cleared s) →
-    u ≡ cond b (settled (pair_lines rules t.orders) t) t →
-    u ≡ settled (lines_of_place (Continuous rules) a s.orders) (with_orders (with_ask a s.orders) s)
-entered rules a s t u b e i o =
-    o ∙ ap (λ (x : Session). cond b (settled (pair_lines rules x.orders) x) x) i
-    ∙ elim b as (λ c. cond c (settled (pair_lines rules (with_ask a s.orders)) (accepted a (cleared s))) (accepted a (cleared s))
-    ≡ settled (cond c (pair_lines rules (with_ask a s.orders)) []) (with_orders (with_ask a s.orders) s)) [ true ↦ refl | false ↦ refl ]
-    ∙ ap (λ c. settled (cond c (pair_lines rules (with_ask a s.orders)) []) (with_orders (with_ask a s.orders) s)) e
+pub trades_where_it_may : (w : Way) (a : Ask) (s t u : Session) (b : Bool) → b ≡ may_trade a.kind a s.orders → t ≡ accepted a (cleared s) →
+    u ≡ cond b (settled (place_lines w t.orders) t) t →
+    u ≡ settled (lines_of_place w a s.orders) (with_orders (with_ask a s.orders) s)
+trades_where_it_may w a s t u b e i o =
+    o ∙ ap (λ (x : Session). cond b (settled (place_lines w x.orders) x) x) i
+    ∙ elim b as (λ c. cond c (settled (place_lines w (with_ask a s.orders)) (accepted a (cleared s))) (accepted a (cleared s))
+    ≡ settled (cond c (place_lines w (with_ask a s.orders)) []) (with_orders (with_ask a s.orders) s)) [ true ↦ refl | false ↦ refl ]
+    ∙ ap (λ c. settled (cond c (place_lines w (with_ask a s.orders)) []) (with_orders (with_ask a s.orders) s)) e
 
 -- and what it may not leave standing is killed
 pub answered : (w : Way) (a : Ask) (s u v : Session) (n k i : ℕ) → u ≡ settled (lines_of_place w a s.orders) (with_orders (with_ask a s.orders) s) →
@@ -77,7 +92,7 @@ abbrev later_questions : Bool → Ask → Session → List Asked
 later_questions c a s =
     (Quantity, leb least_quantity a.quantity && leb a.quantity most_quantity)
     ∷ (KindOf, is_normal a.kind || c)
-    ∷ (OtherSide, not (some (opposes a) s.orders))
+    ∷ (OtherSide, not (list_any (opposes a) s.orders))
     ∷ (Numbers, ltb (length s.orders) most_orders)
     ∷ []
 
@@ -85,17 +100,17 @@ pub limit_passes : (c : Bool) (a : Ask) (s : Session) → first_no (ask_question
 limit_passes c a s e =
     leb-true a.limit highest_tick (second_yes (is_member a.member) (leb a.limit highest_tick) (first_no (later_questions c a s)) Limit Member e)
 
--- an order that was numbered
-pub appended : (b : Bool) (n m : ℕ) (t x y : Session) → Some n ≡ cond b (Some m) None → t ≡ cond b x y → (n ≡ m) × (t ≡ x)
-appended true n m t x y e i = let h : n ≡ m = cc in (h, i)
-appended false n m t x y e i = let z : ◌≡◌ {A = ℕ} 0 1 = cc in absurd (omega arith)
+-- the lines of a place always fit
+place_lines_fit : (w : Way) (os : List Order) → Sound os (length os) → length os ≤ most_orders → length (place_lines w os) ≤ most_lines
+place_lines_fit (Uniform price share reference) os sound few = omega arith
+place_lines_fit (Paired rules) os sound few = omega arith
+place_lines_fit (Continuous rules) os sound few = pair_lines_fit rules os sound few
 
--- the lines of a continuous place always fit
-pub few_lines : (rules : Pairs) (a : Ask) (s : Session) (os : List Order) → os ≡ with_ask a s.orders → Sound os (length os) → length os ≤ most_orders →
-    length (lines_of_place (Continuous rules) a s.orders) ≤ most_lines
-few_lines rules a s os e sound few =
-    let fit : length (pair_lines rules (with_ask a s.orders)) ≤ most_lines = subst (λ (x : List Order). length (pair_lines rules x) ≤ most_lines) e (pair_lines_fit rules os sound few) in
-    elim (may_trade a.kind a s.orders) as (λ b. length (cond b (pair_lines rules (with_ask a s.orders)) []) ≤ most_lines) [
+pub few_lines : (w : Way) (a : Ask) (s : Session) (os : List Order) → os ≡ with_ask a s.orders → Sound os (length os) → length os ≤ most_orders →
+    length (lines_of_place w a s.orders) ≤ most_lines
+few_lines w a s os e sound few =
+    let fit : length (place_lines w (with_ask a s.orders)) ≤ most_lines = subst (λ (x : List Order). length (place_lines w x) ≤ most_lines) e (place_lines_fit w os sound few) in
+    elim (may_trade a.kind a s.orders) as (λ b. length (cond b (place_lines w (with_ask a s.orders)) []) ≤ most_lines) [
       | true ↦ fit
       | false ↦ omega arith
     ]

@@ -1,1 +1,2 @@
 pub mod Awards
+pub mod Entries

@@ -1,14 +1,15 @@
 //! How the rounds of a batch session trade.
-ghost use Rattle.std.specs.Prelude.{◌≡◌, false};
+ghost use Rattle.std.specs.Prelude.{◌≡◌, false, refl};
 ghost use Rattle.orders.specs.Settlement.{settled};
 ghost use Rattle.orders.specs.Held.{session_of};
 ghost use Rattle.pairing.specs.Quotes.{pairs_of};
+ghost use Rattle.std.proofs.Common.{rules};
 ghost use Rattle.steps.specs.Ways.{Paired as PairedWay, Uniform as UniformWay};
 ghost use Rattle.steps.specs.Ways.{Way, Laws, is_continuous, round_lines, round_volume, round_price};
 
 use orders::tables::Tables;
 use pairing::pair;
-use ranking::{OrderQuote, Ranked, Ranking};
+use ranking::{OrderQuote, Quote, Ranked, Ranking};
 use rules::pair::PairPrice;
 use rules::price::PriceRule;
 use rules::sharing::SharingRule;
@@ -16,20 +17,19 @@ use std::marker::PhantomData;
 use ticks::tick::Tick;
 use uniform::clear;
 
-/// The rules of a batch session.
+/// The rules of a batch session, whose orders trade in rounds.
 pub trait Auction {
     ghost way: { Self → Way };
-
-    /// Does nothing, and promises that the rules keep their laws and trade in rounds only.
-    fn vouch(&self)
-        ensures laws { Laws (way self.now) }
-        ensures batch { is_continuous (way self.now) ≡ false };
 
     /// Settles the lines of a round, and answers its volume and its price.
     fn settle(&self, tables: &mut Tables) -> (u64, u16)
         ensures volume { result.0 ≡ round_volume (way self.now) (session_of tables.old).orders }
         ensures price { result.1 ≡ round_price (way self.now) (session_of tables.old).orders }
         ensures after { session_of tables.new ≡ settled (round_lines (way self.now) (session_of tables.old).orders) (session_of tables.old) };
+
+    ghost laws: { (auction : Self) → Laws (way auction) };
+
+    ghost batch: { (auction : Self) → is_continuous (way auction) ≡ false };
 }
 
 /// The rules of a paired session: its pair price, and the ranking `R`.
@@ -54,7 +54,9 @@ impl<R: Ranking, P: PairPrice> PairedRules<R, P> {
 impl<R: Ranking, P: PairPrice> Auction for PairedRules<R, P> {
     ghost way = { λ _. PairedWay (pairs_of R.Buy.Ranked.ahead R.Buy.OrderQuote.made R.Sell.Ranked.ahead R.Sell.OrderQuote.made P.PairPrice.meaning) };
 
-    fn vouch(&self) {}
+    ghost laws = { Prim.search rules };
+
+    ghost batch = { λ _. refl };
 
     fn settle(&self, tables: &mut Tables) -> (u64, u16) {
         (pair::<R, P>(tables, &self.price), 0)
@@ -85,7 +87,9 @@ impl<P: PriceRule, S: SharingRule> UniformRules<P, S> {
 impl<P: PriceRule, S: SharingRule> Auction for UniformRules<P, S> {
     ghost way = { λ u. UniformWay P.PriceRule.meaning S.SharingRule.meaning u.reference.value };
 
-    fn vouch(&self) {}
+    ghost laws = { λ _. (P.PriceRule.clears, S.SharingRule.shares) };
+
+    ghost batch = { λ _. refl };
 
     fn settle(&self, tables: &mut Tables) -> (u64, u16) {
         clear(tables, &self.price, &self.sharing, self.reference)

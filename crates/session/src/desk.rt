@@ -1,135 +1,109 @@
 //! The calls on the plain tables, for every kind of session.
-ghost use Rattle.std.specs.Prelude.{◌≡◌, ℕ, false, ◌||◌, [], Result as Answers, OnOk};
+ghost use Rattle.std.specs.Prelude.{◌≡◌, ℕ, ◌≤◌, not, Result as Answers};
+ghost use Rattle.std.specs.List.{list_any};
 ghost use Rattle.steps.specs.declared.refusal.Refusal.{Refusal as Why};
-ghost use Rattle.steps.specs.declared.call.Acceptance.{Acceptance as Accepting};
+ghost use Rattle.ticks.specs.Ticks.{highest_tick};
+ghost use Rattle.orders.specs.Orders.{buys};
 ghost use Rattle.orders.specs.Settlement.{Session};
 ghost use Rattle.orders.specs.Held.{session_of};
-ghost use Rattle.steps.specs.Refusals.{first_no};
-ghost use Rattle.steps.specs.Ways.{Way, is_continuous};
-ghost use Rattle.steps.specs.Calls.{is_member, is_normal, opposes, some, ask_questions, status_questions, withdraw_questions, place, withdraw, status, account_of, line_at};
+ghost use Rattle.session.specs.Entries.{entered};
+ghost use Rattle.steps.specs.Calls.{is_member, opposes, may_trade, closed, withdraw, status, account_of, line_at};
 
 use orders::order::{
-    Account, Ask, Event, Kind, LAST_MEMBER, LEAST_QUANTITY, Life, Line, MOST_ORDERS, MOST_QUANTITY,
-    Order, Side,
+    Account, Ask, Event, Kind, LAST_MEMBER, LEAST_QUANTITY, Life, Line, MOST_QUANTITY, Order, Side,
 };
 use orders::tables::Tables;
-use steps::call::{Acceptance, Status};
+use steps::call::{OrderRef, Status};
 use steps::refusal::Refusal;
-use ticks::tick::HIGHEST;
+use ticks::tick::{HIGHEST, Tick};
 
 /// Whether there is such a member.
 fn is_member(member: u8) -> bool
     ensures { result ≡ is_member member }
 {
-    1 <= member && member <= LAST_MEMBER
-}
-
-/// Whether the order is the asking member's, standing, and on the other side.
-fn is_opposing(order: Order, ask: Ask) -> bool
-    ensures { result ≡ opposes ask order }
-{
-    match (order.life, order.side, ask.side) {
-        (Life::Standing, Side::Buy, Side::Sell) | (Life::Standing, Side::Sell, Side::Buy) =>
-            order.member == ask.member,
-        _ => false,
-    }
+    (1..=LAST_MEMBER).contains(&member)
 }
 
 /// Whether the member has a standing order on the other side.
 fn is_opposed(placed: &[Order], ask: Ask) -> bool
-    ensures { result ≡ some (opposes ask) placed.now }
+    ensures { result ≡ list_any (opposes ask) placed.now }
 {
-    for order in placed {
-        if is_opposing(*order, ask) {
-            return true;
-        }
-    }
-    false
+    placed.iter().any(|order| {
+        order.life == Life::Standing && order.member == ask.member && order.side != ask.side
+    })
 }
 
-/// Whether the session takes orders of this kind.
-fn is_taken(kind: Kind, continuous: bool) -> bool
-    ensures { result ≡ is_normal kind || continuous }
+/// Numbers the order of an ask, if every question about it is answered yes. It has no lines yet.
+pub(crate) fn enter(tables: &mut Tables, ask: Ask, continuous: bool) -> Result<u16, Refusal>
+    ensures { ◌≡◌ {A = Answers ℕ Why × Session} (result, session_of tables.new) (entered continuous ask (session_of tables.old)) }
+{
+    Refusal::Member.ask(is_member(ask.member))?;
+    Refusal::Limit.ask(ask.limit <= HIGHEST)?;
+    Refusal::Quantity.ask((LEAST_QUANTITY..=MOST_QUANTITY).contains(&ask.quantity))?;
+    Refusal::Kind.ask(ask.kind == Kind::Normal || continuous)?;
+    Refusal::OtherSide.ask(!is_opposed(tables.placed(), ask))?;
+    let number = tables.append(ask).ok_or(Refusal::Numbers)?;
+    tables.clear_lines();
+    Ok(number)
+}
+
+/// The other side of the market.
+fn opposite(side: Side) -> Side
+    ensures { buys result ≡ not (buys side) }
+{
+    match side {
+        Side::Buy => Side::Sell,
+        Side::Sell => Side::Buy,
+    }
+}
+
+/// Whether the ask may trade at once: a fill-or-kill order only if opposite quantity within its limit covers it.
+pub(crate) fn may_trade(tables: &Tables, ask: Ask) -> bool
+    ensures { ask.limit ≤ highest_tick → result ≡ may_trade ask.kind ask (session_of tables.now).orders }
+{
+    ask.kind != Kind::FillOrKill
+        || Tick::new(ask.limit).is_some_and(|limit| ask.quantity
+            <= tables.willing(opposite(ask.side), limit))
+}
+
+/// Kills what an order that may not stand has left, and answers how much that was.
+pub(crate) fn close(tables: &mut Tables, kind: Kind, place: usize) -> u32
+    ensures { ◌≡◌ {A = ℕ × Session} (result, session_of tables.new) (closed kind place (session_of tables.old)) }
 {
     match kind {
-        Kind::Normal => true,
-        Kind::FillAndKill | Kind::FillOrKill => continuous,
-    }
-}
-
-/// The first question about an ask that is answered no.
-pub(crate) fn ask_refusal(tables: &Tables, ask: Ask, continuous: bool) -> Option<Refusal>
-    ensures { result ≡ first_no (ask_questions continuous ask (session_of tables.now)) }
-{
-    if !is_member(ask.member) {
-        return Some(Refusal::Member);
-    }
-    if ask.limit > HIGHEST {
-        return Some(Refusal::Limit);
-    }
-    if ask.quantity < LEAST_QUANTITY || ask.quantity > MOST_QUANTITY {
-        return Some(Refusal::Quantity);
-    }
-    if !is_taken(ask.kind, continuous) {
-        return Some(Refusal::Kind);
-    }
-    let placed = tables.placed();
-    if is_opposed(placed, ask) {
-        return Some(Refusal::OtherSide);
-    }
-    if placed.len() >= MOST_ORDERS {
-        return Some(Refusal::Numbers);
-    }
-    None
-}
-
-/// Numbers the order of an ask in a batch session, where nothing trades at once.
-pub(crate) fn place(tables: &mut Tables, ask: Ask) -> Result<Acceptance, Refusal>
-    ensures lines { OnOk result ((session_of tables.new).lines ≡ []) }
-    ensures answer { (w : Way) → is_continuous w ≡ false → ◌≡◌ {A = Answers Accepting Why × Session} (result, session_of tables.new) (place w ask (session_of tables.old)) }
-{
-    if let Some(refusal) = ask_refusal(tables, ask, false) {
-        return Err(refusal);
-    }
-    tables.clear_lines();
-    match tables.append(ask) {
-        Some(number) => Ok(Acceptance { number, killed: 0 }),
-        None => Err(Refusal::Numbers),
+        Kind::Normal => 0,
+        Kind::FillAndKill | Kind::FillOrKill => {
+            let left = tables.standing_at(place);
+            tables.apply(place, Event::Kill);
+            left
+        }
     }
 }
 
 /// Takes an order out.
-pub(crate) fn withdraw(tables: &mut Tables, member: u8, number: u16) -> Result<u32, Refusal>
-    ensures { ◌≡◌ {A = Answers ℕ Why × Session} (result, session_of tables.new) (withdraw member number (session_of tables.old)) }
+pub(crate) fn withdraw(tables: &mut Tables, order: OrderRef) -> Result<u32, Refusal>
+    ensures { ◌≡◌ {A = Answers ℕ Why × Session} (result, session_of tables.new) (withdraw order.member order.number (session_of tables.old)) }
 {
-    let order = status(tables, member, number)?;
-    match order.life {
-        Life::Standing => {}
-        _ => return Err(Refusal::NotStanding),
-    }
+    let Status { life, left } = status(tables, order)?;
+    Refusal::NotStanding.ask(life == Life::Standing)?;
     tables.clear_lines();
-    tables.apply(number as usize - 1, Event::Withdraw);
-    Ok(order.left)
+    tables.apply(order.number as usize - 1, Event::Withdraw);
+    Ok(left)
 }
 
 /// Whether a member's order stands, and what it has left.
-pub(crate) fn status(tables: &Tables, member: u8, number: u16) -> Result<Status, Refusal>
-    ensures { result ≡ status member number (session_of tables.now) }
+pub(crate) fn status(tables: &Tables, order: OrderRef) -> Result<Status, Refusal>
+    ensures { result ≡ status order.member order.number (session_of tables.now) }
 {
-    if !is_member(member) {
-        return Err(Refusal::Member);
-    }
-    let placed = tables.placed();
-    if number < 1 || number as usize > placed.len() {
-        return Err(Refusal::NotGiven);
-    }
-    let order = placed[number as usize - 1];
-    if order.member != member {
-        return Err(Refusal::NotOwned);
-    }
+    Refusal::Member.ask(is_member(order.member))?;
+    let place = (order.number as usize)
+        .checked_sub(1)
+        .ok_or(Refusal::NotGiven)?;
+    let placed = tables.placed().get(place).ok_or(Refusal::NotGiven)?;
+    Refusal::NotOwned.ask(placed.member == order.member)?;
     Ok(Status {
-        life: order.life,
-        left: order.left,
+        life: placed.life,
+        left: placed.left,
     })
 }
 
@@ -137,9 +111,7 @@ pub(crate) fn status(tables: &Tables, member: u8, number: u16) -> Result<Status,
 pub(crate) fn account(tables: &Tables, member: u8) -> Result<Account, Refusal>
     ensures { result ≡ account_of member (session_of tables.now) }
 {
-    if !is_member(member) {
-        return Err(Refusal::Member);
-    }
+    Refusal::Member.ask(is_member(member))?;
     Ok(tables.account(member))
 }
 
@@ -147,9 +119,9 @@ pub(crate) fn account(tables: &Tables, member: u8) -> Result<Account, Refusal>
 pub(crate) fn line(tables: &Tables, index: usize) -> Result<Line, Refusal>
     ensures { result ≡ line_at index (session_of tables.now) }
 {
-    let lines = tables.lines();
-    if index >= lines.len() {
-        return Err(Refusal::NoSuchLine);
-    }
-    Ok(lines[index])
+    tables
+        .lines()
+        .get(index)
+        .copied()
+        .ok_or(Refusal::NoSuchLine)
 }

@@ -6,4 +6,5 @@ pub mod auction;
 pub mod batch;
 pub mod continuous;
 mod desk;
+pub mod market;
 pub mod opening;

@@ -19,12 +19,9 @@ impl Opening {
     pub fn new(period: u16, reference: u16) -> Result<Opening, Refusal>
         ensures { MatchResult result (λ o. (first_no (open_questions period reference) ≡ None) × (o.period.quarters ≡ period) × (o.reference.value ≡ reference)) (λ e. first_no (open_questions period reference) ≡ Some e) }
     {
-        let Some(period) = Period::new(period) else {
-            return Err(Refusal::Period);
-        };
-        let Some(reference) = Tick::new(reference) else {
-            return Err(Refusal::Reference);
-        };
-        Ok(Opening { period, reference })
+        Ok(Opening {
+            period: Period::new(period).ok_or(Refusal::Period)?,
+            reference: Tick::new(reference).ok_or(Refusal::Reference)?,
+        })
     }
 }

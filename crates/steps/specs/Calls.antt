@@ -1,5 +1,6 @@
 -- The calls: what each answers, and the session that it leaves. A refused call leaves the session as it was.
 use Rattle.std.specs.Prelude.{ℕ, suc, ◌-◌, Bool, true, false, cond, not, ◌&&◌, ◌||◌, List, [], ◌∷◌, ◌++◌, length, Some, None, Ok, Err, Option, Result, ◌==◌, nat_le, nat_lt, slice_index_or}
+use Rattle.std.specs.List.{list_any}
 use Rattle.curves.specs.Orders.{willing, on, demand, supply}
 use Rattle.ticks.specs.Ticks.{highest_tick}
 use Rattle.orders.specs.declared.order.Ask.{Ask}
@@ -19,8 +20,8 @@ use Rattle.steps.specs.declared.call.Outcome.{Outcome}
 use Rattle.steps.specs.declared.call.Status.{Status}
 use Rattle.steps.specs.declared.call.Call.{Call}
 use Rattle.steps.specs.declared.call.Call.TheVariants.{Place, Withdraw, Round}
-use Rattle.steps.specs.declared.call.Answer.{Answer}
-use Rattle.steps.specs.declared.call.Answer.TheVariants.{Accepted, Withdrawn, Cleared, Refused}
+use Rattle.steps.specs.declared.call.Reply.{Reply}
+use Rattle.steps.specs.declared.call.Reply.TheVariants.{Accepted, Withdrawn, Cleared}
 use Rattle.steps.specs.declared.refusal.Refusal.{Refusal}
 use Rattle.steps.specs.declared.refusal.Refusal.TheVariants.{Period, Reference, Member, Limit, Quantity, OtherSide, Numbers, Lines, NotGiven, NotOwned, NotStanding, NoSuchLine}
 use Rattle.steps.specs.declared.refusal.Refusal.TheVariants.{Kind as KindOf}
@@ -71,10 +72,6 @@ is_normal FillOrKill = false
 abbrev pub opposes : Ask → Order → Bool
 opposes a o = is_standing o.life && (o.member == a.member && on (not (buys a.side)) (bid_of o))
 
-abbrev pub some : {X : Type 0} → (X → Bool) → List X → Bool
-some p [] = false
-some p (x ∷ xs) = p x || some p xs
-
 -- may the ask trade at once? A fill-or-kill order only if opposite quantity within its limit covers it
 abbrev pub may_trade : Kind → Ask → List Order → Bool
 may_trade Normal a os = true
@@ -96,7 +93,7 @@ ask_questions continuous a s =
     ∷ (Limit, nat_le a.limit highest_tick)
     ∷ (Quantity, nat_le least_quantity a.quantity && nat_le a.quantity most_quantity)
     ∷ (KindOf, is_normal a.kind || continuous)
-    ∷ (OtherSide, not (some (opposes a) s.orders))
+    ∷ (OtherSide, not (list_any (opposes a) s.orders))
     ∷ (Numbers, nat_lt (length s.orders) most_orders)
     ∷ []
 
@@ -165,12 +162,16 @@ line_at i s = answered (first_no ((NoSuchLine, nat_lt i (length s.lines)) ∷ []
 
 -- ---- the step
 
-abbrev pub told : {A : Type 0} → (A → Answer) → Result A Refusal → Answer
-told answer (Ok x) = answer x
-told answer (Err question) = Refused question
+-- a reply, or why the call is refused
+abbrev pub Answer : Type 0
+Answer = Result Reply Refusal
+
+abbrev pub told : {A : Type 0} → (A → Reply) → Result A Refusal → Answer
+told reply (Ok x) = Ok (reply x)
+told reply (Err question) = Err question
 
 -- the answer to a call, and the session that it leaves
 abbrev pub step : Way → Session → Call → Answer × Session
 step w s (Place a) = (told Accepted (place w a s).0, (place w a s).1)
-step w s (Withdraw m n) = (told Withdrawn (withdraw m n s).0, (withdraw m n s).1)
-step w s Round = (Cleared (outcome w s), (round w s).1)
+step w s (Withdraw o) = (told Withdrawn (withdraw o.member o.number s).0, (withdraw o.member o.number s).1)
+step w s Round = (Ok (Cleared (outcome w s)), (round w s).1)

@@ -2,11 +2,18 @@
 use crate::refusal::Refusal;
 use orders::order::{Ask, Life};
 
+/// An order as its member names it: by the member and the number that was given to it.
+#[derive(Clone, Copy, PartialEq, Eq, Debug)]
+pub struct OrderRef {
+    pub member: u8,
+    pub number: u16,
+}
+
 /// A call that can change a session. A round is shut, award and carry over in a row.
 #[derive(Clone, Copy, PartialEq, Eq, Debug)]
 pub enum Call {
     Place(Ask),
-    Withdraw { member: u8, number: u16 },
+    Withdraw(OrderRef),
     Round,
 }
 
@@ -32,11 +39,13 @@ pub struct Status {
     pub left: u32,
 }
 
-/// The answer to a call: what it was told, or why it was refused.
+/// What a call that is not refused answers.
 #[derive(Clone, Copy, PartialEq, Eq, Debug)]
-pub enum Answer {
+pub enum Reply {
     Accepted(Acceptance),
     Withdrawn(u32),
     Cleared(Outcome),
-    Refused(Refusal),
 }
+
+/// The answer to a call: its reply, or why it is refused.
+pub type Answer = Result<Reply, Refusal>;

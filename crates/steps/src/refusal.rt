@@ -1,5 +1,5 @@
 //! Why a call is refused.
-ghost use Rattle.std.specs.Prelude.{◌≡◌};
+ghost use Rattle.std.specs.Prelude.{◌≡◌, Ok, Err, if◌then◌else◌};
 ghost use Rattle.steps.specs.Refusals.{number_of};
 
 /// The question that was answered no, in the order in which they are put.
@@ -34,6 +34,13 @@ pub enum Refusal {
 }
 
 impl Refusal {
+    /// Goes on where the question is answered yes, and refuses where it is answered no.
+    pub fn ask(self, yes: bool) -> Result<(), Refusal>
+        ensures { result ≡ (if yes then Ok tt else Err self) }
+    {
+        if yes { Ok(()) } else { Err(self) }
+    }
+
     /// The number by which members know the question.
     pub fn number(self) -> u8
         ensures { result ≡ number_of self }

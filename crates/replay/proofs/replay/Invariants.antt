@@ -6,5 +6,5 @@ use Rattle.replay.proofs.replay.Given as goal
 abbrev pub invariant-loop-call : goal.invariant-loop-call
 invariant-loop-call g l =
     (session_of l.session.tables
-    ≡ after (λ c. c) (g.A.Auction.way l.initial.session.auction) (session_of l.initial.session.tables) (take l.call-index l.calls))
-    × (l.session.auction ≡ l.initial.session.auction)
+    ≡ after (λ c. c) (g.A.Auction.way l.initial.session.rules) (session_of l.initial.session.tables) (take l.call-index l.calls))
+    × (l.session.rules ≡ l.initial.session.rules)

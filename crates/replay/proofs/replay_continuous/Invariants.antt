@@ -11,4 +11,4 @@ invariant-loop-deal g l =
     (session_of l.session.tables
     ≡ after call_of (Continuous (pairs_of g.R.Buy.Ranked.ahead g.R.Buy.OrderQuote.made g.R.Sell.Ranked.ahead g.R.Sell.OrderQuote.made g.P.PairPrice.meaning))
     (session_of l.initial.session.tables) (take l.deal-index l.deals))
-    × (l.session.price ≡ l.initial.session.price)
+    × (l.session.rules ≡ l.initial.session.rules)

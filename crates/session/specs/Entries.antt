@@ -1,0 +1,12 @@
+-- What a place does first.
+use Rattle.std.specs.Prelude.{ℕ, suc, Bool, length, Result}
+use Rattle.orders.specs.declared.order.Ask.{Ask}
+use Rattle.orders.specs.Settlement.{Session, cleared}
+use Rattle.orders.specs.Changes.{accepted}
+use Rattle.steps.specs.declared.refusal.Refusal.{Refusal}
+use Rattle.steps.specs.Refusals.{first_no}
+use Rattle.steps.specs.Calls.{made, ask_questions}
+
+-- the order of an ask is numbered, with no lines yet, where every question about it is answered yes
+abbrev pub entered : Bool → Ask → Session → Result ℕ Refusal × Session
+entered continuous a s = made (first_no (ask_questions continuous a s)) (suc (length s.orders), accepted a (cleared s)) s
