@@ -4,7 +4,6 @@ use Rattle.std.specs.List.{AllByRecursion}
 use Rattle.std.proofs.lemmas.List.{get_or-drop, length-map, take-map}
 use Rattle.std.proofs.ByRecursion.{All-from_get_or, all_kept_by, All-map, All-get_or}
 use Rattle.std.proofs.lemmas.List.FromFn.{length-map-range_with_len, get_or-map-range_with_len, fill_by_all}
-use Rattle.std.proofs.lemmas.Bool.{cond-true}
 use Rattle.curves.specs.Orders.{Bid, no_bid, better, demand, supply, OnTicks}
 use Rattle.curves.specs.Orders.{at as bid}
 use Rattle.curves.specs.Sharing.{SharingMeaning, SharingLaw}
@@ -118,11 +117,8 @@ module _ (share : SharingMeaning) (law : SharingLaw share) (os : List Order) (so
         let sh = (margin_of side ms).shares in
         let next : get_or (drop (before side) sh) 0 0 ≡ share_of share V side bs (M side) j =
         get_or-drop (before side) sh 0 0 ∙ ap (λ n. get_or sh n 0) (add-zero (before side)) ∙ sym (share_there side) in
-        let left : o.left ≡ standing o = sym (cond-true (stands o) o.left 0 st) in
-        ap (λ (m : Margin). granted side m o.limit o.left) margin_there
-        ∙ ap (λ z. cond (better side o.limit (M side)) o.left (cond (eqb o.limit (M side)) z 0)) next
-        ∙ ap (λ z. cond (better side o.limit (M side)) z (cond (eqb o.limit (M side)) (share_of share V side bs (M side) j) 0)) left
-        ∙ sym award_there
+        let given = award_there in
+        ap (λ (m : Margin). granted side m o.limit o.left) margin_there ∙ grind arith
 
     award_within : get_or qs j 0 ≤ standing o
     award_within =

@@ -46,7 +46,7 @@ module _ (os : List Order) (d s : List ℕ)
 
   -- where something can trade, the rule is asked
   pub asked : (price : PriceMeaning) (r p : ℕ) → ltb 0 (uniform_volume os) ≡ true → p ≡ price d s r → p ≡ uniform_price price r os
-  asked price r p some e = e ∙ price_seen price r ∙ sym (cond-true (ltb 0 (uniform_volume os)) (price_by price highest_tick (standing_bids os) r) 0 some)
+  asked price r p some e = rw some (e ∙ price_seen price r)
 
   pub made_seen : (share : SharingMeaning) (orders : List Order) (ms : Margins) → orders ≡ os → MadeBy share (curve d) (curve s) orders ms →
       MadeBy share (demand highest_tick (standing_bids os)) (supply highest_tick (standing_bids os)) os ms

@@ -12,7 +12,7 @@ use Rattle.curves.proofs.Orders.{willing_le_ahead, before_supply, demand_above, 
 use Rattle.curves.proofs.Filling.{fits_full, past_none, own_group}
 use Rattle.ticks.specs.Ticks.{highest_tick}
 use Rattle.uniform.specs.Margins.{margin_tick, ahead_of}
-use Rattle.uniform.proofs.Standing.{highest_tick_le}
+use Rattle.uniform.proofs.Standing.{cut_le, highest_tick_le}
 
 -- v runs out at m: the better limits have at most v, and with m itself there is at least v
 pub record RunsOut (v : ℕ) (side : Bool) (bs : List Bid) (m : ℕ) : Type 0 where
@@ -64,9 +64,6 @@ module _ (bs : List Bid) (t : OnTicks highest_tick bs) where
 
   abbrev V : ℕ
   V = clearing_volume highest_tick bs
-
-  cut_le : (b : Bool) (c : ℕ) → cond b c 0 ≤ c
-  cut_le b c = grind arith
 
   -- V is open at its margin, and no more than V is open at better limits
   pub margin_facts : (side : Bool) →

@@ -18,7 +18,7 @@ use Rattle.orders.specs.Willing.{willing_at}
 use Rattle.orders.proofs.Keeps.{sound_parts}
 use Rattle.orders.proofs.Bids.{bid_at}
 use Rattle.steps.specs.Uniform.{uniform_volume}
-use Rattle.uniform.proofs.Standing.{volume_standing}
+use Rattle.uniform.proofs.Standing.{cut_le, volume_standing}
 
 -- a standing order has something left
 some_left : (k : ℕ) (o : Order) → sound_order k o ≡ true → is_standing o.life ≡ true → 0 < o.left
@@ -73,8 +73,7 @@ module _ (os : List Order) (i : ℕ) (h : i < length os) (s : sound_order i (at 
 
   pub scanned_buy : is_standing o.life ≡ true → buys o.side ≡ true → Scanned os (i + 1) (max a (o.limit + 1)) l
   scanned_buy st b =
-      let w : (p : ℕ) → willing_at true p (bid_of o) ≡ cond (leb p o.limit) o.left 0 =
-      λ p. grind arith in
+      let w : (p : ℕ) → willing_at true p (bid_of o) ≡ cond (leb p o.limit) o.left 0 = λ p. grind arith in
       let v : (p : ℕ) → willing_at false p (bid_of o) ≡ 0 = λ p. grind arith in
       record {
         high = λ p g. omega (arith, open_more true p, was.high p (omega arith), w p, cond-false (leb p o.limit) o.left 0 (lt-leb p o.limit (omega arith)));
@@ -96,8 +95,7 @@ module _ (os : List Order) (i : ℕ) (h : i < length os) (s : sound_order i (at 
 
   pub scanned_sell : is_standing o.life ≡ true → buys o.side ≡ false → Scanned os (i + 1) a (min l o.limit)
   scanned_sell st b =
-      let w : (p : ℕ) → willing_at false p (bid_of o) ≡ cond (leb o.limit p) o.left 0 =
-      λ p. grind arith in
+      let w : (p : ℕ) → willing_at false p (bid_of o) ≡ cond (leb o.limit p) o.left 0 = λ p. grind arith in
       let v : (p : ℕ) → willing_at true p (bid_of o) ≡ 0 = λ p. grind arith in
       record {
         high = λ p g. omega (arith, open_more true p, v p, was.high p g);
@@ -129,9 +127,6 @@ module _ (os : List Order) (a l : ℕ) (scanned : Scanned os (length os) a l) wh
 
   all : (side : Bool) (p : ℕ) → willing side bs p ≡ open_of os (length os) side p
   all side p = ap (λ n. total n (λ k. willing_at side p (bid (bids_of os) k))) (length-map os bid_of)
-
-  cut_le : (b : Bool) (c : ℕ) → cond b c 0 ≤ c
-  cut_le b c = grind arith
 
   some : l < a → 0 < clearing_volume highest_tick bs
   some c =

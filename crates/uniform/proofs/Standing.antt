@@ -1,8 +1,8 @@
 -- Orders that do not stand add nothing: demand, supply and V are those of the standing orders.
-use Rattle.std.proofs.Common.{◌≡◌, ℕ, zero, suc, ◌≤◌, Bool, true, false, cond, leb, List, [], ◌∷◌, length, get_or, sum_by, sym, refl, ap, ◌∙◌, arith}
+use Rattle.std.proofs.Common.{◌≡◌, ℕ, zero, suc, ◌≤◌, Bool, true, false, cond, ◌&&◌, leb, List, [], ◌∷◌, length, get_or, sum_by, sym, refl, ap, ◌∙◌, arith}
 use Rattle.std.proofs.lemmas.List.Sums.{sum_by-cons}
 use Rattle.curves.specs.Sums.{total, highest}
-use Rattle.curves.specs.Orders.{Bid, no_bid, willing, demand, supply, clearing_volume}
+use Rattle.curves.specs.Orders.{Bid, no_bid, on, keeps, willing, demand, supply, clearing_volume}
 use Rattle.curves.specs.Curves.{volume}
 use Rattle.curves.proofs.Sums.{total_head}
 use Rattle.orders.specs.declared.order.Order.{Order}
@@ -25,13 +25,13 @@ sum_standing f none (o ∷ os) =
     let nothing = none (bid_of o) in
     grind arith
 
-cut_none : (b : Bool) (x : ℕ) → x ≡ 0 → cond b x 0 ≡ 0
-cut_none b x e = grind arith
+pub cut_le : (b : Bool) (x : ℕ) → cond b x 0 ≤ x
+cut_le b x = grind arith
 
 pub willing_standing : (side : Bool) (os : List Order) (p : ℕ) → willing side (bids_of os) p ≡ willing side (standing_bids os) p
 willing_standing side os p =
     total_sumBy (willing_at side p) no_bid (bids_of os)
-    ∙ sum_standing (willing_at side p) (λ b e. cut_none _ b.left e) os
+    ∙ sum_standing (willing_at side p) (λ b e. omega (arith, cut_le (on side b && keeps side b.limit p) b.left)) os
     ∙ sym (total_sumBy (willing_at side p) no_bid (standing_bids os))
 
 pub demand_standing : (top : ℕ) (os : List Order) → demand top (bids_of os) ≡ demand top (standing_bids os)

@@ -64,6 +64,7 @@ fn gather<S: RoundSide>(orders: &[Order], limit: u16) -> ArrayVec<u32, MOST_ORDE
     ensures { result.items ≡ marginal_group S.Side.buys limit orders.now }
 {
     let mut group = ArrayVec::new();
+    // By push: a chain that is collected answers a `Result`, and there is room for every order.
     for order in orders {
         if stands_at::<S>(order, limit) {
             group.push(order.left);
