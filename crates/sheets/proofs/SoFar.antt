@@ -37,9 +37,12 @@ pub record SoFar (w : Way) (s₀ s : Session) (cs₀ cs : List Call) (text : Lis
   pub counted : k ≡ suc (length history.events)
   pub runs : fold (called w) history cs ≡ fold (called w) (record { session = s₀; events = [] }) cs₀
 
-pub so_far_start : (w : Way) (s : Session) (cs : List Call) (text : List ℕ) (traded : List Bool) → text ≡ [] → Marks [] traded → SoFar w s s cs cs text traded 1
-so_far_start w s cs text traded e m =
-    record { history = record { session = s; events = [] }; session = refl; marks = m; told = e; counted = refl; runs = refl }
+pub so_far_start : (w : Way) (s : Session) (cs₀ cs : List Call) (text : List ℕ) (traded : List Bool) (k : ℕ) → cs ≡ cs₀ → k ≡ 1 → text ≡ [] → Marks [] traded → SoFar w s s cs₀ cs text traded k
+so_far_start w s cs₀ cs text traded k same one e m =
+    record {
+      history = record { session = s; events = [] }; session = refl; marks = m; told = e; counted = one;
+      runs = ap (λ x. fold (called w) (record { session = s; events = [] }) x) same;
+    }
 
 -- one more call
 pub so_far_more : (w : Way) (s₀ s s' : Session) (cs₀ cs : List Call) (c : Call) (a b : Sheet) (k : ℕ) →
@@ -61,14 +64,17 @@ so_far_more w s₀ s s' cs₀ cs c a b k told next f =
       runs = f.runs;
     }
 
--- the same, where the way, the calls to come and the sheet are known by equations
-pub so_far_turn : (w v : Way) (s₀ s s' : Session) (cs₀ all cs : List Call) (c : Call) (a b d : Sheet) (k : ℕ) → v ≡ w → all ≡ c ∷ cs → d ≡ b →
+-- the same, where the way, the calls to come, the call and the counts are known by equations
+pub so_far_turn : (w v : Way) (s₀ s s' : Session) (cs₀ all cs : List Call) (c d : Call) (a b : Sheet) (n k m : ℕ) → v ≡ w → all ≡ d ∷ cs → c ≡ d → n ≡ k → m ≡ k + 1 →
     Told k (step v s c) a b → s' ≡ (step v s c).1 →
-    SoFar w s₀ s cs₀ all (vec_items a.text) a.traded k → SoFar w s₀ s' cs₀ cs (vec_items d.text) d.traded (k + 1)
-so_far_turn w v s₀ s s' cs₀ all cs c a b d k e i o told next f =
+    SoFar w s₀ s cs₀ all (vec_items a.text) a.traded n → SoFar w s₀ s' cs₀ cs (vec_items b.text) b.traded m
+so_far_turn w v s₀ s s' cs₀ all cs c d a b n k m e i asked now then told next f =
     let t : Told k (step w s c) a b = subst (λ (x : Way). Told k (step x s c) a b) e told in
-    so_far_more w s₀ s s' cs₀ cs c a d k (subst (λ (x : Sheet). Told k (step w s c) a x) (sym o) t) (next ∙ ap (λ x. (step x s c).1) e)
-    (subst (λ (x : List Call). SoFar w s₀ s cs₀ x (vec_items a.text) a.traded k) i f)
+    let counted : SoFar w s₀ s cs₀ all (vec_items a.text) a.traded k = subst (λ (x : ℕ). SoFar w s₀ s cs₀ all (vec_items a.text) a.traded x) now f in
+    let before : SoFar w s₀ s cs₀ (c ∷ cs) (vec_items a.text) a.traded k =
+    subst (λ (x : List Call). SoFar w s₀ s cs₀ x (vec_items a.text) a.traded k) (i ∙ ap (λ (x : Call). x ∷ cs) (sym asked)) counted in
+    subst (λ (x : ℕ). SoFar w s₀ s' cs₀ cs (vec_items b.text) b.traded x) (sym then)
+    (so_far_more w s₀ s s' cs₀ cs c a b k t (next ∙ ap (λ x. (step x s c).1) e) before)
 
 -- what the marks tell of the members
 accounts_alike : (p q : ℕ → Bool) (acs : List Account) (n m : ℕ) → n + m ≤ member_places → ((x : ℕ) → x < member_places → p x ≡ q x) → accounts_from p acs n m ≡ accounts_from q acs n m

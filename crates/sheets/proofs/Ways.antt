@@ -13,61 +13,13 @@ use Rattle.book.specs.declared.fault.Question.{Question}
 use Rattle.book.specs.declared.fault.Fault.{Fault}
 use Rattle.book.specs.Format.{way, kind, header_of, entry_of}
 use Rattle.book.specs.Questions.{header_questions, record_questions, first_no, first_fault}
-use Rattle.book.specs.Reading.{words, entries, with_records, with_header, read_book}
+use Rattle.book.specs.Reading.{NoRounds}
 use Rattle.book.specs.Laws.{Passes, Faultless}
 use Rattle.book.specs.declared.values.Entry.TheVariants.{Round}
 use Rattle.steps.specs.Ways.{Way, Uniform, is_continuous}
-use Rattle.sheets.specs.Calls.{sharing_of, paired_at, continuous_way, way_of, is_round, NoRounds, Suits}
+use Rattle.sheets.specs.Calls.{sharing_of, paired_at, continuous_way, way_of, Suits}
 
--- ---- no rounds in a continuous book
-
--- what was read, taken apart
-pub record Parts (s : List ℕ) (h : Header) (es : List Entry) : Type 0 where
-  pub header : h ≡ header_of (word s)
-  pub records : es ≡ map entry_of (words (drop 6 s))
-
-abbrev header_in : Header → Result (Header × List Entry) Fault → Header
-header_in h (Ok b) = b.0
-header_in h (Err f) = h
-
-abbrev entries_in : List Entry → Result (Header × List Entry) Fault → List Entry
-entries_in es (Ok b) = b.1
-entries_in es (Err f) = es
-
-parts_of_records : (h h' : Header) (es es' : List Entry) (o : Option Fault) → with_records h' es' o ≡ Ok (h, es) → (h ≡ h') × (es ≡ es')
-parts_of_records h h' es es' None e = (sym (ap (header_in h) e), sym (ap (entries_in es) e))
-parts_of_records h h' es es' (Some f) e = let z : ◌≡◌ {A = ℕ} 0 1 = cc in absurd (omega arith)
-
-parts_of_header : (s : List ℕ) (h : Header) (es : List Entry) (o : Option Question) → with_header s o ≡ Ok (h, es) → Parts s h es
-parts_of_header s h es None e =
-    let p = parts_of_records h (header_of (word s)) es (entries (drop 6 s)) (first_fault (record_questions (way (word s))) 1 (words (drop 6 s))) e in
-    record { header = p.0; records = p.1 }
-parts_of_header s h es (Some q) e = let z : ◌≡◌ {A = ℕ} 0 1 = cc in absurd (omega arith)
-
--- a record of kind 0 or 1 is no round
-kinds : (n w : ℕ) → 5 ≤ w → (ltb (kind n) 2 || (eqb (kind n) 2 && ltb w 5)) ≡ true → is_round (entry_of n) ≡ false
-kinds n w h e =
-    let late : ltb w 5 ≡ false = le-ltb w 5 h in
-    let below : kind n < 2 = elim (or_cases (ltb (kind n) 2) (eqb (kind n) 2 && ltb w 5) e) [
-      | inl a ↦ ltb-true (kind n) 2 a
-      | inr b ↦ let z : ◌≡◌ {A = Bool} true false = sym (and_parts (eqb (kind n) 2) (ltb w 5) b).1 ∙ late in let y : ◌≡◌ {A = ℕ} 0 1 = cc in absurd (omega arith)
-    ] in
-    elim (cases_eq (kind n) 0) [
-      | inl z ↦ rw (eq-eqb (kind n) 0 z)
-      | inr d ↦
-          let one : kind n ≡ 1 = omega arith in
-          rw (ne_eqb (kind n) 0 d, eq-eqb (kind n) 1 one)
-    ]
-
-no_round_words : (w : ℕ) → 5 ≤ w → (ns : List ℕ) → AllByRecursion (λ n. Passes (record_questions w n)) ns → NoRounds (map entry_of ns)
-no_round_words w h [] p = tt
-no_round_words w h (n ∷ ns) p = (kinds n w h p.0.0, no_round_words w h ns p.1)
-
-pub no_rounds : (s : List ℕ) (h : Header) (es : List Entry) → read_book s ≡ Ok (h, es) → Faultless s → 5 ≤ h.way → NoRounds es
-no_rounds s h es e f late =
-    let p = parts_of_header s h es (first_no (header_questions s)) e in
-    let w : h.way ≡ way (word s) = ap (λ (x : Header). x.way) p.header in
-    subst (λ (x : List Entry). NoRounds x) (sym p.records) (no_round_words (way (word s)) (omega arith) (words (drop 6 s)) f.1)
+-- ---- rounds in a book
 
 -- only a batch way has rounds
 pub rounds_are_batch : (w : Way) (es : List Entry) → Suits w (Round ∷ es) → is_continuous w ≡ false

@@ -1,6 +1,5 @@
 -- The way that a book's header names, and the calls of its records.
 use Rattle.std.specs.Prelude.{◌≡◌, ℕ, Bool, true, false, cond, List, map, ◌==◌}
-use Rattle.std.specs.List.{AllByRecursion}
 use Rattle.curves.specs.Sharing.{SharingMeaning}
 use Rattle.rules.specs.Prices.{crossing, principles}
 use Rattle.rules.specs.Sharing.{earliest_first, largest_first, pro_rata}
@@ -9,6 +8,7 @@ use Rattle.ranking.specs.Orders.{paired, continuous}
 use Rattle.book.specs.declared.values.Header.{Header}
 use Rattle.book.specs.declared.values.Placement.{Placement}
 use Rattle.book.specs.declared.values.Entry.{Entry}
+use Rattle.book.specs.Reading.{NoRounds}
 use Rattle.book.specs.declared.values.Entry.TheVariants.{Place as PlaceEntry, Withdraw as WithdrawEntry, Round as RoundEntry}
 use Rattle.orders.specs.declared.order.Ask.{Ask}
 use Rattle.orders.specs.declared.order.Side.{Side}
@@ -60,18 +60,8 @@ ask_of p = record {
 -- the call of a record
 abbrev pub call_of : Entry → Call
 call_of (PlaceEntry p) = Place (ask_of p)
-call_of (WithdrawEntry w) = Withdraw w.member w.number
+call_of (WithdrawEntry w) = Withdraw (record { member = w.member; number = w.number })
 call_of RoundEntry = Round
-
--- is the record a round?
-abbrev pub is_round : Entry → Bool
-is_round (PlaceEntry p) = false
-is_round (WithdrawEntry w) = false
-is_round RoundEntry = true
-
--- none of the records is a round
-abbrev pub NoRounds : List Entry → Type 0
-NoRounds es = AllByRecursion (λ (e : Entry). is_round e ≡ false) es
 
 -- a continuous way has no rounds among its records
 abbrev pub Suits : Way → List Entry → Type 0

@@ -3,7 +3,7 @@ use Rattle.std.specs.Prelude.{◌≡◌, ℕ, ◌<◌, Bool, false, List, ◌++�
 use Rattle.orders.specs.declared.order.Line.{Line}
 use Rattle.orders.specs.Settlement.{Session, member_places}
 use Rattle.orders.specs.Members.{has_line}
-use Rattle.steps.specs.declared.call.Answer.{Answer}
+use Rattle.steps.specs.Calls.{Answer}
 use Rattle.history.specs.Histories.{lines_made}
 use Rattle.sheets.specs.declared.growing.Sheet.{Sheet}
 use Rattle.sheets.specs.Sheet.{answer_text}

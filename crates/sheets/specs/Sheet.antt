@@ -9,21 +9,20 @@ use Rattle.orders.specs.declared.order.Account.{Account}
 use Rattle.orders.specs.Orders.{last_member}
 use Rattle.orders.specs.Settlement.{account}
 use Rattle.orders.specs.Members.{has_line}
-use Rattle.steps.specs.declared.call.Answer.{Answer}
-use Rattle.steps.specs.declared.call.Answer.TheVariants.{Accepted, Withdrawn, Cleared, Refused}
+use Rattle.steps.specs.declared.call.Reply.TheVariants.{Accepted, Withdrawn, Cleared}
 use Rattle.steps.specs.declared.refusal.Refusal.{Refusal}
 use Rattle.steps.specs.Refusals.{first_no}
-use Rattle.steps.specs.Calls.{open_questions}
+use Rattle.steps.specs.Calls.{Answer, open_questions}
 use Rattle.history.specs.Histories.{Event, History, run, all_lines, Holds}
 use Rattle.sheets.specs.Rows.{fault_row, no_row, round_row, line_rows, account_row}
 use Rattle.sheets.specs.Calls.{way_of, calls_of}
 
 -- what a record adds to the sheet, by the answer of its call and the lines that the call made
 abbrev pub answer_text : ℕ → Answer → List Line → List ℕ
-answer_text k (Accepted a) ls = line_rows ls
-answer_text k (Withdrawn q) ls = line_rows ls
-answer_text k (Cleared o) ls = round_row o ++ line_rows ls
-answer_text k (Refused q) ls = no_row k q
+answer_text k (Ok (Accepted a)) ls = line_rows ls
+answer_text k (Ok (Withdrawn q)) ls = line_rows ls
+answer_text k (Ok (Cleared o)) ls = round_row o ++ line_rows ls
+answer_text k (Err q) ls = no_row k q
 
 -- the events of the records from the k-th on
 abbrev pub events_text : ℕ → List Event → List ℕ

@@ -2,10 +2,11 @@
 ghost use Rattle.std.specs.Prelude.{◌≡◌};
 ghost use Rattle.sheets.specs.Calls.{ask_of};
 
-use book::Placement;
+use book::{Placement, Withdrawal};
 use orders::order::{Ask, Kind, Side};
+use steps::call::OrderRef;
 
-/// The ask of a placement. It is no `From`, since both types are of other crates.
+/// The ask of a placement. It is no `From`, nor is the next, since both types are of other crates.
 pub(crate) fn ask_of(placement: Placement) -> Ask
     ensures { result ≡ ask_of placement }
 {
@@ -24,5 +25,15 @@ pub(crate) fn ask_of(placement: Placement) -> Ask
         kind,
         limit: placement.limit,
         quantity: placement.quantity,
+    }
+}
+
+/// The order that a withdrawal names.
+pub(crate) fn order_of(withdrawal: Withdrawal) -> OrderRef
+    ensures { result ≡ record { member = withdrawal.member; number = withdrawal.number } }
+{
+    OrderRef {
+        member: withdrawal.member,
+        number: withdrawal.number,
     }
 }

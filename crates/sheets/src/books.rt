@@ -3,7 +3,7 @@ ghost use Rattle.std.specs.Prelude.{◌≡◌, ℕ, ◌<◌, ◌≤◌, List, le
 ghost use Rattle.book.specs.Reading.{entries};
 ghost use Rattle.book.specs.declared.values.Header.{Header};
 ghost use Rattle.history.specs.Histories.{HistoriesHold};
-ghost use Rattle.sheets.specs.Calls.{way_of, NoRounds};
+ghost use Rattle.sheets.specs.Calls.{way_of};
 ghost use Rattle.steps.specs.Refusals.{first_no};
 ghost use Rattle.steps.specs.Calls.{open_questions};
 ghost use Rattle.sheets.specs.Rows.{fault_row};
@@ -38,8 +38,6 @@ pub fn every_way_holds()
 
 /// The text of a book that reads: that of its calls, or of its opening where that is refused.
 fn opened(heap: Global, book: Book) -> Result<Vec<u8>, AllocError>
-    requires few { length (entries book.rest.now) < 4096 }
-    requires rounds { 5 ≤ book.header.way → NoRounds (entries book.rest.now) }
     ensures { IfOk result (λ text. text.items ≡ opened_text (first_no (open_questions book.entry.header.period book.entry.header.reference)) book.entry.header (entries book.entry.rest.now)) }
 {
     let header = book.header();

@@ -20,6 +20,7 @@ use session::auction::Auction;
 use session::batch::Taking;
 use session::continuous::Continuous;
 use std::alloc::AllocError;
+use steps::call::OrderRef;
 use steps::refusal::Refusal;
 
 /// A session that makes the calls of a book's records.
@@ -35,8 +36,8 @@ pub(crate) trait Ledger {
         ensures way { way self.new ≡ way self.old };
 
     /// Withdraws an order: the quantity that was taken out.
-    fn withdraw_order(&mut self, member: u8, number: u16) -> Result<u32, Refusal>
-        ensures answer { ◌≡◌ {A = Answers ℕ Why × Session} (result, session self.new) (withdraw member number (session self.old)) }
+    fn withdraw_order(&mut self, order: OrderRef) -> Result<u32, Refusal>
+        ensures answer { ◌≡◌ {A = Answers ℕ Why × Session} (result, session self.new) (withdraw order.member order.number (session self.old)) }
         ensures way { way self.new ≡ way self.old };
 
     /// Makes a round, and adds it with its lines. A continuous session has none, and promises nothing here.
@@ -51,7 +52,7 @@ pub(crate) trait Ledger {
 }
 
 impl<A: Auction + Drop> Ledger for Taking<A> {
-    ghost way = { λ t. A.Auction.way t.auction };
+    ghost way = { λ t. A.Auction.way t.rules };
 
     ghost session = { λ t. session_of t.tables };
 
@@ -62,8 +63,8 @@ impl<A: Auction + Drop> Ledger for Taking<A> {
         }
     }
 
-    fn withdraw_order(&mut self, member: u8, number: u16) -> Result<u32, Refusal> {
-        self.withdraw(member, number)
+    fn withdraw_order(&mut self, order: OrderRef) -> Result<u32, Refusal> {
+        self.withdraw(order)
     }
 
     fn clear_round(self, sheet: &mut Sheet) -> Result<Self, AllocError> {
@@ -89,8 +90,8 @@ impl<R: Ranking, P: PairPrice> Ledger for Continuous<R, P> {
         }
     }
 
-    fn withdraw_order(&mut self, member: u8, number: u16) -> Result<u32, Refusal> {
-        self.withdraw(member, number)
+    fn withdraw_order(&mut self, order: OrderRef) -> Result<u32, Refusal> {
+        self.withdraw(order)
     }
 
     fn clear_round(self, _sheet: &mut Sheet) -> Result<Self, AllocError> {

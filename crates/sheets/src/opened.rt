@@ -1,20 +1,19 @@
 //! A book that reads and that opens a session: its records, made as calls of that session, and the text that they give.
 ghost use Rattle.std.specs.Prelude.{◌≡◌, ℕ, ◌<◌, ◌≤◌, length, IfOk, OnOk};
-ghost use Rattle.std.proofs.Props.{props};
 ghost use Rattle.book.specs.Reading.{entries};
 ghost use Rattle.orders.specs.Settlement.{opening};
 ghost use Rattle.steps.specs.declared.call.Call.TheVariants.{Withdraw};
 ghost use Rattle.steps.specs.Ways.{Uniform as UniformWay};
 ghost use Rattle.steps.specs.Calls.{step};
 ghost use Rattle.history.specs.Histories.{run};
-ghost use Rattle.sheets.specs.Calls.{sharing_of, paired_at, continuous_way, way_of, calls_of, NoRounds, Suits};
+ghost use Rattle.sheets.specs.Calls.{sharing_of, paired_at, continuous_way, way_of, calls_of, Suits};
 ghost use Rattle.sheets.specs.Sheet.{history_text};
 ghost use Rattle.sheets.specs.Growing.{Told};
 
-use crate::asks::ask_of;
+use crate::asks::{ask_of, order_of};
 use crate::growing::Sheet;
 use crate::ledger::Ledger;
-use book::{Book, Entry, Withdrawal};
+use book::{Book, Entry, Sharing, Way};
 use ranking::orders::{Continuous as ContinuousRanking, Paired};
 use ranking::{OrderQuote, Ranked, Ranking};
 use rules::pair::{BuyersPrice, EarlierOrders, HalfTheSum, PairPrice, SellersPrice};
@@ -25,19 +24,20 @@ use session::batch::Taking;
 use session::continuous::Continuous;
 use session::opening::Opening;
 use std::alloc::{AllocError, Global};
+use steps::call::OrderRef;
 
 /// Withdraws an order, and adds why that was refused, where it was.
 fn withdraw<L: Ledger>(
     session: &mut L,
     sheet: &mut Sheet,
     number: usize,
-    order: Withdrawal,
+    order: OrderRef,
 ) -> Result<(), AllocError>
-    ensures sheet { OnOk result (Told number (step (L.Ledger.way session.old) (L.Ledger.session session.old) (Withdraw order.member order.number)) sheet.old sheet.new) }
-    ensures session { L.Ledger.session session.new ≡ (step (L.Ledger.way session.old) (L.Ledger.session session.old) (Withdraw order.member order.number)).1 }
+    ensures sheet { OnOk result (Told number (step (L.Ledger.way session.old) (L.Ledger.session session.old) (Withdraw order)) sheet.old sheet.new) }
+    ensures session { L.Ledger.session session.new ≡ (step (L.Ledger.way session.old) (L.Ledger.session session.old) (Withdraw order)).1 }
     ensures way { L.Ledger.way session.new ≡ L.Ledger.way session.old }
 {
-    match session.withdraw_order(order.member, order.number) {
+    match session.withdraw_order(order) {
         Ok(_) => Ok(()),
         Err(refusal) => sheet.put_no(number, refusal),
     }
@@ -48,8 +48,6 @@ pub(crate) struct Opened<'a> {
     pub heap: Global,
     pub figures: Opening,
     pub book: Book<'a>,
-    ghost few: { length (entries book.rest.now) < 4096 },
-    ghost rounds: { 5 ≤ book.header.way → NoRounds (entries book.rest.now) } by { Prim.hlevel props },
     ghost opens: { (figures.period.quarters ≡ book.header.period) × (figures.reference.value ≡ book.header.reference) },
 }
 
@@ -62,20 +60,21 @@ impl<'a> Opened<'a> {
         let Opened {
             heap,
             figures: _,
-            mut book,
+            book,
         } = self;
         let mut session = session;
         let mut sheet = Sheet::new(heap);
-        let mut number = 1;
-        while let Some(record) = book.next() {
-            match record.entry() {
+        for (i, record) in book.enumerate() {
+            let number = i + 1;
+            match Entry::from(record) {
                 Entry::Place(placement) => {
                     session.take_order(&mut sheet, number, ask_of(placement))?
                 }
-                Entry::Withdraw(order) => withdraw(&mut session, &mut sheet, number, order)?,
+                Entry::Withdraw(withdrawal) => {
+                    withdraw(&mut session, &mut sheet, number, order_of(withdrawal))?
+                }
                 Entry::Round => session = session.clear_round(&mut sheet)?,
             }
-            number += 1;
         }
         sheet.put_accounts(&session)?;
         Ok(sheet.text)
@@ -85,7 +84,6 @@ impl<'a> Opened<'a> {
     fn in_rounds<A: Auction + Drop>(self, auction: A) -> Result<Vec<u8>, AllocError>
         ensures { IfOk result (λ text. text.items ≡ history_text (run (A.Auction.way auction) self.entry.book.header.period (calls_of (entries self.entry.book.rest.now)))) }
     {
-        auction.vouch();
         let session = Taking::open(self.figures, auction);
         self.made_to(session)
     }
@@ -106,10 +104,10 @@ impl<'a> Opened<'a> {
     fn shared<P: PriceRule + Drop>(self, price: P) -> Result<Vec<u8>, AllocError>
         ensures { IfOk result (λ text. text.items ≡ history_text (run (UniformWay P.PriceRule.meaning (sharing_of self.entry.book.header.sharing) self.entry.book.header.reference) self.entry.book.header.period (calls_of (entries self.entry.book.rest.now)))) }
     {
-        match self.book.header().sharing {
-            0 => self.uniform(price, EarliestFirst),
-            1 => self.uniform(price, LargestFirst),
-            _ => self.uniform(price, ProRata),
+        match self.book.sharing() {
+            Sharing::EarliestFirst => self.uniform(price, EarliestFirst),
+            Sharing::LargestFirst => self.uniform(price, LargestFirst),
+            Sharing::ProRata => self.uniform(price, ProRata),
         }
     }
 
@@ -137,13 +135,13 @@ impl<'a> Opened<'a> {
     pub(crate) fn cleared(self) -> Result<Vec<u8>, AllocError>
         ensures { IfOk result (λ text. text.items ≡ history_text (run (way_of self.entry.book.header) self.entry.book.header.period (calls_of (entries self.entry.book.rest.now)))) }
     {
-        match self.book.header().way {
-            0 => self.shared(Crossing),
-            1 => self.shared(Principles),
-            2 => self.paired(BuyersPrice),
-            3 => self.paired(SellersPrice),
-            4 => self.paired(HalfTheSum),
-            _ => self.continuous(),
+        match self.book.way() {
+            Way::Crossing => self.shared(Crossing),
+            Way::Principles => self.shared(Principles),
+            Way::BuyersPrice => self.paired(BuyersPrice),
+            Way::SellersPrice => self.paired(SellersPrice),
+            Way::HalfTheSum => self.paired(HalfTheSum),
+            Way::Continuous => self.continuous(),
         }
     }
 }

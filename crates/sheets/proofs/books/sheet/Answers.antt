@@ -7,14 +7,7 @@ use Rattle.book.specs.Reading.{entries, read_book}
 use Rattle.book.proofs.Fronts.{read_of_input}
 use Rattle.sheets.specs.Calls.{calls_of}
 use Rattle.sheets.specs.Sheet.{sheet_read, RightRead}
-use Rattle.sheets.proofs.Ways.{no_rounds}
 use Rattle.sheets.proofs.books.sheet.Goals as goal
-
-pub opened-requires : goal.opened-requires
-opened-requires c =
-    let reads = c.in-Ok.ensures.reads in
-    let tells = c.in-Ok.ensures.tells in
-    record { few = c.in-Ok.ensures.few; rounds = no_rounds c.args.bytes.now c.in-Ok.book.header (entries c.in-Ok.book.rest.now) reads tells }
 
 pub returns-in-Ok : goal.returns-in-Ok
 returns-in-Ok c =

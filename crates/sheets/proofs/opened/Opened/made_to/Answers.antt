@@ -1,71 +1,69 @@
-use Rattle.std.proofs.Common.{◌≡◌, ◌+◌, ◌≤◌, false, ◌∷◌, length, sym, refl, ap, ◌∙◌, subst, arith}
+use Rattle.std.proofs.Common.{◌≡◌, ◌+◌, false, ◌∷◌, sym, refl, ap, ◌∙◌, subst, arith}
+use Rattle.std.specs.declared.iter.Enumerate.{Enumerate}
+use Rattle.std.specs.Iterator.Adapters.{enumerate_source, enumerate_count}
+use Rattle.book.specs.declared.reading.Book.{Book}
 use Rattle.book.specs.declared.values.Entry.{Entry}
-use Rattle.book.specs.Reading.{entries}
-use Rattle.steps.specs.declared.call.Call.{Call}
-use Rattle.steps.specs.declared.call.Call.TheVariants.{Place as CallPlace}
+use Rattle.book.specs.Reading.{entries, NoRounds}
+use Rattle.steps.specs.declared.call.Call.TheVariants.{Place as CallPlace, Withdraw as CallWithdraw}
 use Rattle.steps.specs.Ways.{is_continuous}
-use Rattle.steps.specs.Calls.{step}
-use Rattle.sheets.specs.Growing.{Told}
 use Rattle.sheets.specs.Calls.{calls_of, Suits}
 use Rattle.sheets.proofs.SoFar.{so_far_start, so_far_turn, so_far_whole}
 use Rattle.sheets.proofs.Ways.{rounds_are_batch, suits_rest}
 use Rattle.sheets.proofs.opened.Opened.made_to.Goals as goal
-use Rattle.sheets.proofs.opened.Opened.made_to.Goals.{in-Place+in_ok-take_order-in-Place, in-Withdraw+in_ok-withdraw-in-Withdraw, in-Round+in_ok-session-in-Round}
 
-pub loop-record-init : goal.loop-record-init
-loop-record-init g c =
-    let few = c.args.self.few in
-    (so_far_start _ _ _ _ _ c.new-sheet.ensures.text c.new-sheet.ensures.marks, refl, c.requires, omega arith)
+pub loop-i-init : goal.loop-i-init
+loop-i-init g c =
+    let made = c.into_iter-i-iterator.ensures.into_iter_gives in
+    let left = ap (λ (x : Enumerate Book). entries (enumerate_source x).rest.now) made ∙ ap (λ (b : Book). entries b.rest.now) c.enumerate-i-items.ensures.source in
+    let one = ap (λ (x : Enumerate Book). enumerate_count x + 1) made ∙ ap (λ n. n + 1) c.enumerate-i-items.ensures.count in
+    (so_far_start _ _ _ _ _ _ _ (ap calls_of left) one c.new-sheet.ensures.text c.new-sheet.ensures.marks, refl, λ late. subst NoRounds (sym left) (c.requires late))
 
-pub loop-record-preserved : goal.loop-record-preserved
-loop-record-preserved g c =
-    let way = g.L.Ledger.way in
-    let now = c.loop-record.session in
-    let k = c.loop-record.number in
-    let same = c.loop-record.invariant.1 in
-    let all = entries c.loop-record.book.rest.now in
-    let rest = entries c.next.new.self.rest.now in
-    let handed = c.in-Some.ensures.hands.0 in
-    let l = ap length handed in
-    let few : k + 1 + length rest ≤ 4096 = omega arith in
-    let at : (e : Entry) → c.entry.result ≡ e → all ≡ e ∷ rest = λ e i. handed ∙ ap (λ x. x ∷ rest) (sym c.entry.ensures ∙ i) in
-    let suits = c.loop-record.invariant.2 in
-    let told = c.loop-record.invariant.0 in
-    elim c.match-entry.branch [
-      | in-Place+in_ok-take_order-in-Place w ↦
-          let asked = ap CallPlace w.ask_of.ensures in
-          let ways = ap way w.session-is ∙ w.take_order.ensures.way in (
-            so_far_turn _ (way now) _ _ _ _ (calls_of all) (calls_of rest) _ c.loop-record.sheet _ _ k same (ap calls_of (at _ w.in-Place.is)) w.sheet-is
-                (subst (λ (x : Call). Told k (step (way now) (g.L.Ledger.session now) x) c.loop-record.sheet w.take_order.new.sheet) asked w.in_ok-take_order-in-Place.ensures.sheet)
-                (ap g.L.Ledger.session w.session-is ∙ w.take_order.ensures.session ∙ ap (λ x. (step (way now) (g.L.Ledger.session now) x).1) asked) told,
-            ways ∙ same,
-            suits_rest (way now) _ _ all rest (sym ways) handed suits,
-            few,
-          )
-      | in-Withdraw+in_ok-withdraw-in-Withdraw w ↦
-          let ways = ap way w.session-is ∙ w.withdraw.ensures.way in (
-            so_far_turn _ (way now) _ _ _ _ (calls_of all) (calls_of rest) _ c.loop-record.sheet _ _ k same (ap calls_of (at _ w.in-Withdraw.is)) w.sheet-is
-                w.in_ok-withdraw-in-Withdraw.ensures.sheet
-                (ap g.L.Ledger.session w.session-is ∙ w.withdraw.ensures.session) told,
-            ways ∙ same,
-            suits_rest (way now) _ _ all rest (sym ways) handed suits,
-            few,
-          )
-      | in-Round+in_ok-session-in-Round w ↦
-          let batch : is_continuous (way now) ≡ false = rounds_are_batch (way now) rest (subst (Suits (way now)) (at _ w.in-Round.is) suits) in
-          let ways = ap way w.session-is ∙ w.in_ok-session-in-Round.ensures.way in (
-            so_far_turn _ (way now) _ _ _ _ (calls_of all) (calls_of rest) _ c.loop-record.sheet _ _ k same (ap calls_of (at _ w.in-Round.is)) w.sheet-is
-                (w.in_ok-session-in-Round.ensures.sheet batch k)
-                (ap g.L.Ledger.session w.session-is ∙ w.in_ok-session-in-Round.ensures.session batch) told,
-            ways ∙ same,
-            suits_rest (way now) _ _ all rest (sym ways) handed suits,
-            few,
-          )
-    ]
+pub loop-i-preserved-in-Continue-1 : goal.loop-i-preserved-in-Continue-1
+loop-i-preserved-in-Continue-1 g c =
+    let now = c.loop-i.session in
+    let same = c.loop-i.invariant.1 in
+    let ways = c.take_order.ensures.way in
+    let steps = c.in-Some.ensures.steps in
+    let handed = steps.0.1 ∙ ap (λ (x : Entry). x ∷ entries (enumerate_source c.next.new.self).rest.now) (sym c.from.ensures ∙ c.in-Place.is) in (
+      so_far_turn _ (g.L.Ledger.way now) _ _ _ _ _ _ _ _ c.loop-i.sheet _ (enumerate_count c.loop-i.i-iterator + 1) (c.in-Some.i + 1) (enumerate_count c.next.new.self + 1) same (ap calls_of handed) (ap CallPlace c.ask_of.ensures)
+          (omega (arith, steps.1)) (omega (arith, steps.1, steps.2))
+          c.in_ok-take_order-in-Place.ensures.sheet c.take_order.ensures.session c.loop-i.invariant.0,
+      ways ∙ same,
+      suits_rest (g.L.Ledger.way now) _ _ _ _ (sym ways) steps.0.1 c.loop-i.invariant.2,
+    )
+
+pub loop-i-preserved-in-Continue-branch-2 : goal.loop-i-preserved-in-Continue-branch-2
+loop-i-preserved-in-Continue-branch-2 g c =
+    let now = c.loop-i.session in
+    let same = c.loop-i.invariant.1 in
+    let ways = c.withdraw.ensures.way in
+    let steps = c.in-Some.ensures.steps in
+    let handed = steps.0.1 ∙ ap (λ (x : Entry). x ∷ entries (enumerate_source c.next.new.self).rest.now) (sym c.from.ensures ∙ c.in-Withdraw.is) in (
+      so_far_turn _ (g.L.Ledger.way now) _ _ _ _ _ _ _ _ c.loop-i.sheet _ (enumerate_count c.loop-i.i-iterator + 1) (c.in-Some.i + 1) (enumerate_count c.next.new.self + 1) same (ap calls_of handed) (ap CallWithdraw c.order_of.ensures)
+          (omega (arith, steps.1)) (omega (arith, steps.1, steps.2))
+          c.in_ok-withdraw-in-Withdraw.ensures.sheet c.withdraw.ensures.session c.loop-i.invariant.0,
+      ways ∙ same,
+      suits_rest (g.L.Ledger.way now) _ _ _ _ (sym ways) steps.0.1 c.loop-i.invariant.2,
+    )
+
+pub loop-i-preserved : goal.loop-i-preserved
+loop-i-preserved g c =
+    let now = c.loop-i.session in
+    let same = c.loop-i.invariant.1 in
+    let made = c.in_ok-session-in-Round.ensures in
+    let steps = c.in-Some.ensures.steps in
+    let handed = steps.0.1 ∙ ap (λ (x : Entry). x ∷ entries (enumerate_source c.next.new.self).rest.now) (sym c.from.ensures ∙ c.in-Round.is) in
+    let batch : is_continuous (g.L.Ledger.way now) ≡ false = rounds_are_batch (g.L.Ledger.way now) _ (subst (Suits (g.L.Ledger.way now)) handed c.loop-i.invariant.2) in (
+      so_far_turn _ (g.L.Ledger.way now) _ _ _ _ _ _ _ _ c.loop-i.sheet _ (enumerate_count c.loop-i.i-iterator + 1) (c.in-Some.i + 1) (enumerate_count c.next.new.self + 1) same (ap calls_of handed) refl
+          (omega (arith, steps.1)) (omega (arith, steps.1, steps.2))
+          (made.sheet batch (c.in-Some.i + 1)) (made.session batch) c.loop-i.invariant.0,
+      made.way ∙ same,
+      suits_rest (g.L.Ledger.way now) _ _ _ _ (sym made.way) steps.0.1 c.loop-i.invariant.2,
+    )
 
 pub returns : goal.returns
 returns g c =
     λ opens.
-    so_far_whole _ _ c.args.self.book.header.period _ (g.L.Ledger.session c.loop-record.session) (calls_of (entries c.args.self.book.rest.now)) _ _ _ _ _
-    refl opens (ap calls_of c.in_default.ensures.hands)
-    c.loop-record.invariant.0 c.in_ok-put_accounts.ensures
+    so_far_whole _ _ c.args.self.book.header.period _ (g.L.Ledger.session c.loop-i.session) (calls_of (entries c.args.self.book.rest.now)) _ _ _ _ _
+    refl opens (ap calls_of c.in-None.ensures.steps.0.1.0)
+    c.loop-i.invariant.0 c.in_ok-put_accounts.ensures
