@@ -2,7 +2,7 @@
 use Rattle.std.proofs.Common.{◌≡◌, ℕ, zero, suc, ◌≤◌, true, ◌&&◌, leb, inl, inr, arith}
 use Rattle.std.proofs.lemmas.Bool.{cases_lt, and_parts, and_from, le-leb, leb-true}
 use Rattle.curves.specs.Curves.{Curves, executable, volume, VolumeIsGreatest}
-use Rattle.curves.specs.Crossing.{before, Crossing, crosses, crossing_low, crossing_high, crossing_middle, CrossingExists, CrossingIsInterval, CrossingClears, CrossingEnds, CrossingMiddle, HalfRoundsUp}
+use Rattle.curves.specs.Crossing.{before, Crossing, crosses, crossing_low, crossing_high, crossing_middle, CrossingExists, CrossingIsInterval, CrossingClears, CrossingEnds, CrossingMiddle}
 use Rattle.curves.proofs.Sums.{greatest_le, greatest_at, lowest_le, lowest_passes, highest_ge, highest_passes}
 
 pub volume_is_greatest : VolumeIsGreatest
@@ -92,6 +92,3 @@ crossing_in_the_middle top D S c =
     let (lx, hx, all) = crossing_ends top D S c in
     let lh : crossing_low top D S ≤ crossing_high top D S = (all (crossing_low top D S) lx).1 in
     crossing_is_interval top D S c (crossing_low top D S) (crossing_middle top D S) (crossing_high top D S) lx hx (omega arith) (omega arith)
-
-pub half_rounds_up : HalfRoundsUp
-half_rounds_up a b = (omega arith, omega arith)

@@ -19,8 +19,8 @@ impl<'a> TickTest for InRange<'a> {
 
     fn passes(&self, tick: Tick) -> bool {
         let (figures, volume) = (self.figures, self.figures.volume());
-        (figures.demand_above(tick) <= volume && volume <= figures.demand_at(tick))
-            && (figures.supply_below(tick) <= volume && volume <= figures.supply_at(tick))
+        (figures.demand_above(tick)..=figures.demand_at(tick)).contains(&volume)
+            && (figures.supply_below(tick)..=figures.supply_at(tick)).contains(&volume)
     }
 }
 

@@ -18,6 +18,7 @@ pub struct Tick {
 
 impl Tick {
     /// The tick of a number, none past the highest.
+    // No `TryFrom`: its error would say no more than `None`.
     pub fn new(value: u16) -> Option<Tick>
         ensures { MatchOption result (highest_tick < value) (λ t. t.value ≡ value) }
     {

@@ -1,5 +1,8 @@
 use Rattle.curves.proofs.crossing_ends.Goals as goal
-use Rattle.curves.proofs.Crossings.{crossing_ends, crossing_in_the_middle, half_rounds_up}
+use Rattle.curves.proofs.Crossings.{crossing_ends, crossing_in_the_middle}
 
-pub returns : goal.returns
-returns c = record { ends = crossing_ends; middle = crossing_in_the_middle; half = half_rounds_up }
+pub returns-clause-ends : goal.returns-clause-ends
+returns-clause-ends c = crossing_ends
+
+pub returns-clause-middle : goal.returns-clause-middle
+returns-clause-middle c = crossing_in_the_middle
