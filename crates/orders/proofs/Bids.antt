@@ -1,8 +1,8 @@
 -- Orders as bids, one at a time.
-use Rattle.std.proofs.Common.{◌≡◌, ℕ, suc, ◌+◌, ◌*◌, ◌<◌, ◌≤◌, Bool, true, false, cond, ◌&&◌, eqb, List, length, get_or, set, sym, refl, ap, ◌∙◌, inl, inr, arith}
-use Rattle.std.proofs.lemmas.List.{get_or-map, get_or-set_same, get_or-set_other, length-map}
+use Rattle.std.proofs.Common.{◌≡◌, ℕ, suc, ◌+◌, ◌*◌, ◌<◌, ◌≤◌, Bool, true, cond, ◌&&◌, List, length, get_or, set, ap, arith}
+use Rattle.std.proofs.lemmas.List.{get_or-map, length-map}
 use Rattle.std.proofs.lemmas.List.FromFn.{fill_by_all}
-use Rattle.std.proofs.lemmas.Bool.{cond_both, cases_eq, eq-eqb, ne_eqb}
+use Rattle.std.proofs.lemmas.Bool.{cond_both}
 use Rattle.std.proofs.lemmas.Grind.{elements}
 use Rattle.curves.specs.Sums.{total}
 use Rattle.curves.specs.Curves.{figures}
@@ -53,14 +53,10 @@ pub limits_more : (side : Bool) (bs : List Bid) (i v : ℕ) (qs : List ℕ) (m :
     (l : ℕ) → l < length qs → get_or (set qs m (get_or qs m 0 + v)) l 0 ≡ total (i + 1) (λ k. limited_at side l (bid bs k))
 limits_more side bs i v qs m at-m lt e so_far l h =
     let more = total_more i (λ k. limited_at side l (bid bs k)) in
-    elim (cases_eq l m) [
-      | inl s ↦
-          ap (λ z. get_or (set qs m (get_or qs m 0 + v)) z 0) s ∙ get_or-set_same qs m (get_or qs m 0 + v) 0 lt
-          ∙ omega (arith, ap (λ z. get_or qs z 0) s, so_far l h, more, limited_same side (bid bs i) l (s ∙ at-m), e)
-      | inr n ↦
-          get_or-set_other qs m l (get_or qs m 0 + v) 0 n
-          ∙ omega (arith, so_far l h, more, limited_other side (bid bs i) l (λ z. n (sym z ∙ sym at-m)))
-    ]
+    let here = limited_same side (bid bs i) l in
+    let other = limited_other side (bid bs i) l in
+    let before = so_far l in
+    grind (arith, elements)
 
 pub most_more : (i v m : ℕ) (qs : List ℕ) → m < length qs → v ≤ most_quantity → ((l : ℕ) → l < length qs → get_or qs l 0 ≤ most_quantity * i) →
     (l : ℕ) → l < length qs → get_or (set qs m (get_or qs m 0 + v)) l 0 ≤ most_quantity * (i + 1)

@@ -1,21 +1,18 @@
 -- What the tables keep as one element of them changes.
-use Rattle.std.proofs.Common.{◌≡◌, ℕ, zero, suc, ◌+◌, ◌*◌, ◌<◌, ◌≤◌, true, cond, eqb, leb, List, [], ◌∷◌, length, get_or, take, set, sum_by, refl, ap, ◌∙◌, inl, inr, arith}
+use Rattle.std.proofs.Common.{◌≡◌, ℕ, suc, ◌+◌, ◌*◌, ◌<◌, ◌≤◌, true, cond, List, length, take, set, sum_by, ap, ◌∙◌, arith}
 use Rattle.std.proofs.Math.Seq.{take-set-lt}
 use Rattle.std.proofs.ByRecursion.{All-from_get_or, sum_by_le}
-use Rattle.std.proofs.lemmas.List.{get_or-set_same, get_or-set_other, length-set, length-take-le, get_or-take, take_more_set}
-use Rattle.std.proofs.lemmas.List.Sums.{sum_by-set, sum_by_push}
-use Rattle.std.proofs.lemmas.Bool.{cases_eq, and_parts, leb-true, eqb-true}
+use Rattle.std.proofs.lemmas.List.{length-take-le, get_or-take}
+use Rattle.std.proofs.lemmas.List.Sums.{sum_by-set}
 use Rattle.ticks.specs.Ticks.{highest_tick}
 use Rattle.orders.specs.declared.order.Life.{Life}
-use Rattle.orders.specs.declared.order.Life.TheVariants.{Standing, Filled, Withdrawn, Killed}
 use Rattle.orders.specs.declared.order.Event.{Event}
-use Rattle.orders.specs.declared.order.Event.TheVariants.{Fill, Withdraw, Kill}
+use Rattle.orders.specs.declared.order.Event.TheVariants.{Fill}
 use Rattle.orders.specs.declared.order.Order.{Order}
-use Rattle.orders.specs.declared.order.Line.{Line}
 use Rattle.orders.specs.declared.order.Account.{Account}
 use Rattle.orders.specs.Orders.{most_orders, most_quantity, last_member, is_standing, left_after, after, filled_by, standing, at, no_order, sound_order}
-use Rattle.orders.specs.Settlement.{no_account, changed}
-use Rattle.orders.specs.Kept.{most_lines, dearest, Sound, SoundLines, sound_line, no_line, gone, Within, OrdersKept, LinesKept, AccountsKept}
+use Rattle.orders.specs.Settlement.{changed}
+use Rattle.orders.specs.Kept.{Sound, gone, Within, OrdersKept}
 
 -- ---- orders
 

@@ -1,18 +1,16 @@
 -- Sessions whose parts are equal, and what one line does.
-use Rattle.std.proofs.Common.{◌≡◌, ℕ, suc, ◌+◌, ◌-◌, ◌*◌, ◌≤◌, true, leb, List, [], ◌∷◌, ◌++◌, length, fold, sym, ap, ◌∙◌, le_refl, mul_assoc, arith}
+use Rattle.std.proofs.Common.{◌≡◌, ℕ, suc, ◌-◌, ◌*◌, ◌≤◌, List, [], ◌∷◌, ◌++◌, length, fold, sym, ap, ◌∙◌, le_refl, mul_assoc, arith}
 use Rattle.std.proofs.lemmas.Nat.{mul-le}
-use Rattle.std.proofs.lemmas.Bool.{and_parts, and_from, leb-true, le-leb, eq-eqb, lt-ltb, cond_both}
 use Rattle.ticks.specs.Ticks.{highest_tick}
-use Rattle.orders.specs.declared.order.Ask.{Ask}
 use Rattle.orders.specs.declared.order.Event.TheVariants.{Fill}
 use Rattle.orders.specs.declared.order.Order.{Order}
 use Rattle.orders.specs.declared.order.Line.{Line}
 use Rattle.orders.specs.declared.order.Account.{Account}
-use Rattle.orders.specs.Orders.{last_member, least_quantity, most_quantity, buys, at, sound_order}
-use Rattle.orders.specs.Settlement.{Session, line_of, worth, changed, with_orders, with_charge, with_line, fill, charge, charged, posted, with_ranked_lines, SettledOneByOne}
+use Rattle.orders.specs.Orders.{at}
+use Rattle.orders.specs.Settlement.{Session, line_of, worth, changed, with_orders, with_charge, with_line, fill, charge, posted, with_ranked_lines, SettledOneByOne}
 use Rattle.std.proofs.lemmas.List.{append-nil, append_assoc}
 use Rattle.orders.specs.Kept.{longest_period, dearest}
-use Rattle.orders.specs.Changes.{sound_ask, new_order, traded}
+use Rattle.orders.specs.Changes.{traded}
 
 abbrev pub held : List Order → List Account → List Line → ℕ → Session
 held os acs ls p = record { orders = os; accounts = acs; lines = ls; period = p }

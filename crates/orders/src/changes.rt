@@ -116,6 +116,7 @@ impl Tables {
     pub fn apply(&mut self, place: usize, event: Event)
         ensures { session_of self.new ≡ with_orders (changed place event (session_of self.old).orders) (session_of self.old) }
     {
+        // By place, and not by `get_mut`: no proof is made where a field of these tables is lent out as a slice.
         if place < self.count {
             self.orders[place] = self.orders[place].after(event);
         }

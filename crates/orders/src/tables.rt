@@ -4,6 +4,7 @@ ghost use Rattle.orders.specs.Kept.{OrdersKept, LinesKept, AccountsKept};
 use crate::order::{Account, Line, MEMBERS, MOST_LINES, MOST_ORDERS, Order};
 use crate::period::Period;
 
+// Plain arrays, each with the length that is in use beside it: there is no heap here.
 /// Every order of a session by number, the lines of the latest call, the accounts by member, and the period.
 #[derive(Drop)]
 pub struct Tables {

@@ -1,4 +1,4 @@
-use Rattle.std.proofs.Common.{◌≡◌, ◌<◌, ◌≤◌, length, take, set, sym, ap, ◌∙◌, arith}
+use Rattle.std.proofs.Common.{◌<◌, take, set, sym, ap, ◌∙◌, arith}
 use Rattle.std.proofs.lemmas.List.{get_or-take}
 use Rattle.std.proofs.Math.Seq.{take-set-lt}
 use Rattle.orders.specs.Orders.{at, after, no_order}
@@ -11,13 +11,11 @@ use Rattle.orders.proofs.tables.Tables.apply.Goals as goal
 pub invariant_of-self-clause-owed : goal.invariant_of-self-clause-owed
 invariant_of-self-clause-owed c =
     let t = c.args.self.now in
-    let i = c.args.place in
-    let o = at t.orders i in
-    let new = c.after.result in
-    let more : gone o ≤ gone new = omega (arith, gone_event c.args.event o, ap gone c.after.ensures.is) in (
+    let more = gone_event c.args.event (at t.orders c.args.place) in
+    let is = ap gone c.after.ensures.is in (
       t.owed.0,
-      within_put (λ a. a.pays) t.orders t.count i new t.accounts t.ordered (omega arith) more t.owed.1,
-      within_put (λ a. a.gets) t.orders t.count i new t.accounts t.ordered (omega arith) more t.owed.2,
+      within_put (λ a. a.pays) t.orders t.count _ c.after.result t.accounts t.ordered (omega arith) (omega (arith, more, is)) t.owed.1,
+      within_put (λ a. a.gets) t.orders t.count _ c.after.result t.accounts t.ordered (omega arith) (omega (arith, more, is)) t.owed.2,
     )
 
 pub returns-then-place-self : goal.returns-then-place-self

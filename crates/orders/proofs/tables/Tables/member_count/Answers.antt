@@ -1,5 +1,4 @@
 use Rattle.std.proofs.Common.{◌≡◌, ◌*◌, ◌%◌, ◌^◌, ◌<◌, cond, length, get_or, take, ap, ◌∙◌, arith, rules}
-use lib.Bits.{bit_or}
 use Rattle.std.proofs.lemmas.Nat.{or_lt, mod_below, pow_pos}
 use Rattle.std.proofs.lemmas.List.{take_all}
 use Rattle.orders.specs.Settlement.{member_places}

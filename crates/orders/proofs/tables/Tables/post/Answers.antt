@@ -1,6 +1,5 @@
-use Rattle.std.proofs.Common.{◌≡◌, ◌<◌, ◌≤◌, length, take, sum_by, sym, ap, ◌∙◌, arith}
+use Rattle.std.proofs.Common.{◌≡◌, ◌<◌, ◌≤◌, length, sum_by, sym, ap, ◌∙◌, arith}
 use Rattle.std.proofs.lemmas.List.{get_or-take, length-take-le}
-use Rattle.std.proofs.lemmas.Bool.{and_from, lt-ltb}
 use Rattle.ticks.specs.Ticks.{highest_tick}
 use Rattle.orders.specs.Orders.{at, standing, no_order, sound_order}
 use Rattle.orders.specs.Settlement.{member_places, account, line_of, worth, with_charge, with_line}

@@ -1,9 +1,7 @@
 use Rattle.std.proofs.Common.{◌≡◌, ◌<◌, length, sym, ap, ◌∙◌, arith}
-use Rattle.curves.specs.Orders.{at, willing}
-use Rattle.curves.specs.Sums.{total}
+use Rattle.curves.specs.Orders.{at}
 use Rattle.ticks.proofs.Steps.{total_none, total_more}
-use Rattle.std.proofs.lemmas.List.{length-map}
-use Rattle.orders.specs.Orders.{buys, bid_of, bids_of}
+use Rattle.orders.specs.Orders.{buys, bids_of}
 use Rattle.orders.specs.Willing.{willing_at}
 use Rattle.orders.proofs.Bids.{bid_at, willing_most}
 use Rattle.orders.proofs.tables.Tables.willing.Goals as goal
