@@ -47,13 +47,16 @@ pub fn every_history_holds()
 /// So it is of uniform sessions, whatever rules price and share.
 pub fn uniform_sessions_hold<P: PriceRule, S: SharingRule>()
     ensures { (reference : ℕ) → HistoriesHold (Uniform P.PriceRule.meaning S.SharingRule.meaning reference) }
-{}
+{
+    every_history_holds();
+}
 
 /// So it is of paired sessions, whatever rules rank and price pairs.
 pub fn paired_sessions_hold<R: Ranking, P: PairPrice>()
     ensures { HistoriesHold (Paired (pairs_of (order_rank R.Buy.Ranked.ahead R.Buy.OrderQuote.made) (order_rank R.Sell.Ranked.ahead R.Sell.OrderQuote.made) P.PairPrice.meaning)) }
 {
     orders_are_ranked::<R>();
+    every_history_holds();
 }
 
 /// So it is of continuous sessions, whatever rules rank and price pairs.
@@ -61,6 +64,7 @@ pub fn continuous_sessions_hold<R: Ranking, P: PairPrice>()
     ensures { HistoriesHold (Continuous (pairs_of (order_rank R.Buy.Ranked.ahead R.Buy.OrderQuote.made) (order_rank R.Sell.Ranked.ahead R.Sell.OrderQuote.made) P.PairPrice.meaning)) }
 {
     orders_are_ranked::<R>();
+    every_history_holds();
 }
 
 /// Worked histories.
