@@ -47,23 +47,13 @@ pub(crate) fn enter(tables: &mut Tables, ask: Ask, continuous: bool) -> Result<u
     Ok(number)
 }
 
-/// The other side of the market.
-fn opposite(side: Side) -> Side
-    ensures { buys result ≡ not (buys side) }
-{
-    match side {
-        Side::Buy => Side::Sell,
-        Side::Sell => Side::Buy,
-    }
-}
-
 /// Whether the ask may trade at once: a fill-or-kill order only if opposite quantity within its limit covers it.
 pub(crate) fn may_trade(tables: &Tables, ask: Ask) -> bool
     ensures { ask.limit ≤ highest_tick → result ≡ may_trade ask.kind ask (session_of tables.now).orders }
 {
     ask.kind != Kind::FillOrKill
         || Tick::new(ask.limit).is_some_and(|limit| ask.quantity
-            <= tables.willing(opposite(ask.side), limit))
+            <= tables.willing(ask.side.opposite(), limit))
 }
 
 /// Kills what an order that may not stand has left, and answers how much that was.

@@ -7,7 +7,8 @@ ghost use Rattle.uniform.specs.Margins.{figures_volume, margin_tick, ahead_of, m
 use crate::side::RoundSide;
 use arrayvec::{ArrayVec, IntoIter};
 use orders::order::{Life, MOST_ORDERS, Order, Side as OrderSide};
-use ranking::orders::{Buying, Selling, Side};
+use ranking::orders::{Buying, Continuous, LimitQuote, Selling, Side};
+use ranking::{OrderFields, OrderQuote, Quote};
 use rules::sharing::SharingRule;
 use ticks::figures::Figures;
 
@@ -36,15 +37,16 @@ impl Margin {
         }
     }
 
-    /// What an order of the side gets; its share at the margin is then gone.
-    fn grant<S: Side>(&mut self, order: &Order) -> u32
-        ensures quantity { result ≡ granted S.Side.buys self.old order.now.limit order.now.left }
-        ensures after { self.new ≡ passed order.now.limit self.old }
+    /// What the order of a quote gets; its share at the margin is then gone.
+    fn grant<S: Side, Q: Quote>(&mut self, quote: &Q) -> u32
+        ensures quantity { result ≡ granted S.Side.buys self.old (Q.Quote.limit quote.now) (Q.Quote.left quote.now) }
+        ensures after { self.new ≡ passed (Q.Quote.limit quote.now) self.old }
     {
-        if order.limit == self.limit {
+        let limit = quote.limit();
+        if limit == self.limit {
             self.shares.next().unwrap_or(0)
-        } else if S::is_better(order.limit, self.limit) {
-            order.left
+        } else if S::is_better(limit, self.limit) {
+            quote.left()
         } else {
             0
         }
@@ -73,6 +75,19 @@ fn gather<S: RoundSide>(orders: &[Order], limit: u16) -> ArrayVec<u32, MOST_ORDE
     group
 }
 
+/// The quote of an order of a side.
+fn quote<S: Side>(order: &Order) -> LimitQuote<S, Continuous>
+    ensures limit { result.order.limit ≡ order.now.limit }
+    ensures left { result.order.left ≡ order.now.left }
+{
+    LimitQuote::make(&OrderFields {
+        number: order.number,
+        limit: order.limit,
+        placed: order.placed,
+        left: order.left,
+    })
+}
+
 /// The margins of both sides.
 #[derive(Drop)]
 pub(crate) struct Margins {
@@ -98,8 +113,12 @@ impl Margins {
         ensures after { self.new ≡ turned self.old order.now }
     {
         match (order.life, order.side) {
-            (Life::Standing, OrderSide::Buy) => self.buys.grant::<Buying>(order),
-            (Life::Standing, OrderSide::Sell) => self.sells.grant::<Selling>(order),
+            (Life::Standing, OrderSide::Buy) => self
+                .buys
+                .grant::<Buying, _>(&quote::<Buying>(order)),
+            (Life::Standing, OrderSide::Sell) => self
+                .sells
+                .grant::<Selling, _>(&quote::<Selling>(order)),
             _ => 0,
         }
     }
