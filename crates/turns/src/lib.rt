@@ -38,16 +38,11 @@ pub trait ByKey {
         ensures { result ≡ key self.now quantity };
 }
 
-/// The turns of a key.
-#[derive(Drop)]
-struct KeyTurns<'a, K> {
-    by: &'a K,
-}
-
-impl<'a, K: ByKey> Turns for KeyTurns<'a, K> {
+/// What goes by a key alone has nothing for sure.
+impl<K: ByKey> Turns for K {
     ghost sure = { λ t q. 0 };
 
-    ghost key = { λ t q. K.ByKey.key t.by.now q };
+    ghost key = { λ t q. K.ByKey.key t q };
 
     ghost claim = { λ t q. q };
 
@@ -58,7 +53,7 @@ impl<'a, K: ByKey> Turns for KeyTurns<'a, K> {
     }
 
     fn key(&self, quantity: u32) -> u128 {
-        self.by.key(quantity)
+        ByKey::key(self, quantity)
     }
 
     fn claim(&self, quantity: u32) -> u32 {
@@ -150,5 +145,5 @@ pub fn share_by_turns<T: Turns>(turns: &T, amount: u128, group: &mut [u32])
 pub fn share_by_key<K: ByKey>(by: &K, amount: u64, group: &mut [u32])
     ensures { group.new ≡ by_key (K.ByKey.key by.now) amount group.old }
 {
-    share_by_turns(&KeyTurns { by }, u128::from(amount), group);
+    share_by_turns(by, u128::from(amount), group);
 }
