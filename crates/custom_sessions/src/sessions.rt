@@ -2,9 +2,9 @@
 ghost use Rattle.std.specs.Prelude.{◌≡◌};
 ghost use Rattle.orders.specs.declared.order.Kind.TheVariants.{Normal};
 
-use own_rules::{LargerLeft, LowestClearing, SmallestFirst, ThirdOfTheWay};
 use crate::words::{print_account, print_lines, print_placed, print_refusal};
 use orders::order::{Ask, Kind, Side};
+use own_rules::{LargerLeft, LowestClearing, SmallestFirst, ThirdOfTheWay};
 use replay::{make, replay};
 use session::auction::{Auction, PairedRules, UniformRules};
 use session::batch::Taking;

@@ -5,8 +5,8 @@ ghost use Rattle.history.specs.Histories.{HistoriesHold};
 ghost use Rattle.own_rules.specs.Meanings.{lowest_clearing, smallest_first};
 ghost use Rattle.custom_sessions.specs.Meanings.{thirds};
 
-use own_rules::{LargerLeft, LowestClearing, SmallestFirst, ThirdOfTheWay};
 use history::{continuous_sessions_hold, paired_sessions_hold, uniform_sessions_hold};
+use own_rules::{LargerLeft, LowestClearing, SmallestFirst, ThirdOfTheWay};
 
 /// Uniform sessions, at the lowest tick that clears, the smallest order first, whatever the reference price.
 pub fn uniform_histories_hold()

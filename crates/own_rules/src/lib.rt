@@ -10,8 +10,8 @@ ghost use Rattle.own_rules.specs.Laws.{clears_within, clears_there};
 ghost use Rattle.std.proofs.Common.{rules};
 ghost use Rattle.rules.specs.Quotas.{claims_law};
 
-use ranking::OrderFields;
-use ranking::orders::TieBreak;
+use ranking::orders::{Buying, LimitQuote, Selling, TieBreak};
+use ranking::{OrderFields, Ranking};
 use rules::pair::PairPrice;
 use rules::price::PriceRule;
 use rules::sharing::SharingRule;
@@ -105,4 +105,12 @@ impl TieBreak for LargerLeft {
     fn is_ahead(order: &OrderFields, other: &OrderFields) -> bool {
         other.left < order.left || (order.left == other.left && order.number < other.number)
     }
+}
+
+impl Ranking for LargerLeft {
+    type Buy = LimitQuote<Buying, LargerLeft>;
+
+    type Sell = LimitQuote<Selling, LargerLeft>;
+
+    ghost sides = { Prim.search rules };
 }

@@ -122,6 +122,15 @@ impl TieBreak for Continuous {
     }
 }
 
+// Written for each ranking, and not once for every tie-break: a type that breaks ties may rank by quotes of its own.
+impl Ranking for Continuous {
+    type Buy = LimitQuote<Buying, Continuous>;
+
+    type Sell = LimitQuote<Selling, Continuous>;
+
+    ghost sides = { Prim.search rules };
+}
+
 /// Pairing: equal limits by the larger placed quantity, then the earlier order.
 #[derive(Clone, Copy)]
 pub struct Paired;
@@ -136,11 +145,10 @@ impl TieBreak for Paired {
     }
 }
 
-/// Every tie-break ranks the orders of both sides: the better limit first, then as it says.
-impl<T: TieBreak> Ranking for T {
-    type Buy = LimitQuote<Buying, T>;
+impl Ranking for Paired {
+    type Buy = LimitQuote<Buying, Paired>;
 
-    type Sell = LimitQuote<Selling, T>;
+    type Sell = LimitQuote<Selling, Paired>;
 
     ghost sides = { Prim.search rules };
 }

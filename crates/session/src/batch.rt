@@ -13,6 +13,7 @@ use crate::auction::Auction;
 use crate::market::{Market, ShowsLines, TakesOrders};
 use crate::opening::Opening;
 use orders::tables::Tables;
+use steps::call::Outcome;
 use steps::refusal::Refusal;
 use ticks::tick::Tick;
 
@@ -45,6 +46,8 @@ impl<A: Auction> TakesOrders<A> for Open {
     }
 }
 
+impl ShowsLines for Open {}
+
 impl ShowsLines for Award {}
 
 /// A session that takes orders.
@@ -63,6 +66,21 @@ impl<A: Auction> Market<A, Open> {
         ensures rules { result.rules ≡ auction }
     {
         Market::opened(figures, auction, Open)
+    }
+
+    /// A round in one call, in place: shut, awarded and carried over. Its lines can be seen until the next accepted call.
+    pub fn round(&mut self) -> Outcome
+        ensures round { ◌≡◌ {A = Result-of × Session} (result, session_of self.new.tables) (round (A.Auction.way self.old.rules) (session_of self.old.tables)) }
+        ensures fair { Fair (A.Auction.way self.old.rules) (session_of self.old.tables) (result, session_of self.new.tables) }
+        ensures rules { self.new.rules ≡ self.old.rules }
+    {
+        let tables = &mut self.tables;
+        let (volume, price) = self.rules.settle(tables);
+        Outcome {
+            volume,
+            price,
+            members: tables.member_count(),
+        }
     }
 
     /// Takes no more orders.

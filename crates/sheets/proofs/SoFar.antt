@@ -40,7 +40,11 @@ pub record SoFar (w : Way) (s₀ s : Session) (cs₀ cs : List Call) (text : Lis
 pub so_far_start : (w : Way) (s : Session) (cs₀ cs : List Call) (text : List ℕ) (traded : List Bool) (k : ℕ) → cs ≡ cs₀ → k ≡ 1 → text ≡ [] → Marks [] traded → SoFar w s s cs₀ cs text traded k
 so_far_start w s cs₀ cs text traded k same one e m =
     record {
-      history = record { session = s; events = [] }; session = refl; marks = m; told = e; counted = one;
+      history = record { session = s; events = [] };
+      session = refl;
+      marks = m;
+      told = e;
+      counted = one;
       runs = ap (λ x. fold (called w) (record { session = s; events = [] }) x) same;
     }
 

@@ -1,4 +1,4 @@
-use Rattle.std.proofs.Common.{suc, nat_le, rules, arith}
+use Rattle.std.proofs.Common.{suc, nat_le, rules}
 use Rattle.ticks.specs.Ticks.{highest_tick}
 use Rattle.ticks.specs.Seen.{demand_of, greatest_volume}
 use Rattle.ticks.proofs.Ends.{highest_never}
