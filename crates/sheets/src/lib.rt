@@ -3,8 +3,8 @@
 
 mod asks;
 mod books;
+mod calls;
 mod growing;
-mod ledger;
 mod opened;
 mod rows;
 mod writing;

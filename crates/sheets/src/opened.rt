@@ -2,6 +2,7 @@
 ghost use Rattle.std.specs.Prelude.{◌≡◌, ℕ, ◌<◌, ◌≤◌, length, IfOk, OnOk};
 ghost use Rattle.book.specs.Reading.{entries};
 ghost use Rattle.orders.specs.Settlement.{opening};
+ghost use Rattle.orders.specs.Held.{session_of};
 ghost use Rattle.steps.specs.declared.call.Call.TheVariants.{Withdraw};
 ghost use Rattle.steps.specs.Ways.{Uniform as UniformWay};
 ghost use Rattle.steps.specs.Calls.{step};
@@ -11,8 +12,8 @@ ghost use Rattle.sheets.specs.Sheet.{history_text};
 ghost use Rattle.sheets.specs.Growing.{Told};
 
 use crate::asks::{ask_of, order_of};
+use crate::calls::{MakesRounds, place, withdraw};
 use crate::growing::Sheet;
-use crate::ledger::Ledger;
 use book::{Book, Entry, Sharing, Way};
 use ranking::orders::{Continuous as ContinuousRanking, Paired};
 use ranking::{OrderQuote, Ranked, Ranking};
@@ -22,26 +23,10 @@ use rules::sharing::{EarliestFirst, LargestFirst, ProRata, SharingRule};
 use session::auction::{Auction, PairedRules, UniformRules};
 use session::batch::Taking;
 use session::continuous::Continuous;
+use session::market::{Market, TakesOrders};
 use session::opening::Opening;
 use std::alloc::{AllocError, Global};
 use steps::call::OrderRef;
-
-/// Withdraws an order, and adds why that was refused, where it was.
-fn withdraw<L: Ledger>(
-    session: &mut L,
-    sheet: &mut Sheet,
-    number: usize,
-    order: OrderRef,
-) -> Result<(), AllocError>
-    ensures sheet { OnOk result (Told number (step (L.Ledger.way session.old) (L.Ledger.session session.old) (Withdraw order)) sheet.old sheet.new) }
-    ensures session { L.Ledger.session session.new ≡ (step (L.Ledger.way session.old) (L.Ledger.session session.old) (Withdraw order)).1 }
-    ensures way { L.Ledger.way session.new ≡ L.Ledger.way session.old }
-{
-    match session.withdraw_order(order) {
-        Ok(_) => Ok(()),
-        Err(refusal) => sheet.put_no(number, refusal),
-    }
-}
 
 /// A book that reads, and the figures that its header opens a session with.
 pub(crate) struct Opened<'a> {
@@ -53,9 +38,12 @@ pub(crate) struct Opened<'a> {
 
 impl<'a> Opened<'a> {
     /// The text of the history of the book's calls, made to a session that is just opened.
-    fn made_to<L: Ledger + Drop>(self, session: L) -> Result<Vec<u8>, AllocError>
-        requires { Suits (L.Ledger.way session) (entries self.book.rest.now) }
-        ensures { L.Ledger.session session ≡ opening self.entry.book.header.period → IfOk result (λ text. text.items ≡ history_text (run (L.Ledger.way session) self.entry.book.header.period (calls_of (entries self.entry.book.rest.now)))) }
+    fn made_to<W: Drop, S: MakesRounds<W> + Drop>(
+        self,
+        session: Market<W, S>,
+    ) -> Result<Vec<u8>, AllocError>
+        requires { Suits (S.TakesOrders.way session.rules) (entries self.book.rest.now) }
+        ensures { session_of session.tables ≡ opening self.entry.book.header.period → IfOk result (λ text. text.items ≡ history_text (run (S.TakesOrders.way session.rules) self.entry.book.header.period (calls_of (entries self.entry.book.rest.now)))) }
     {
         let Opened {
             heap,
@@ -68,12 +56,12 @@ impl<'a> Opened<'a> {
             let number = i + 1;
             match Entry::from(record) {
                 Entry::Place(placement) => {
-                    session.take_order(&mut sheet, number, ask_of(placement))?
+                    place(&mut session, &mut sheet, number, ask_of(placement))?
                 }
                 Entry::Withdraw(withdrawal) => {
                     withdraw(&mut session, &mut sheet, number, order_of(withdrawal))?
                 }
-                Entry::Round => session = session.clear_round(&mut sheet)?,
+                Entry::Round => S::round(&mut session, &mut sheet)?,
             }
         }
         sheet.put_accounts(&session)?;

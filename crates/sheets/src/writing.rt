@@ -9,11 +9,9 @@ ghost use Rattle.sheets.specs.Sheet.{account_piece, accounts_text};
 ghost use Rattle.sheets.specs.Growing.{Marks, marked, Grown};
 
 use crate::growing::Sheet;
-use crate::ledger::Ledger;
 use crate::rows::{put_account, put_line, put_no, put_round};
 use orders::order::{LAST_MEMBER, Line, MEMBERS};
-use session::auction::Auction;
-use session::batch::Awarded;
+use session::market::Market;
 use std::alloc::{AllocError, Global};
 use steps::call::Outcome;
 use steps::refusal::Refusal;
@@ -50,37 +48,32 @@ impl Sheet {
     }
 
     /// Adds a round and its lines.
-    pub(crate) fn put_awarded<A: Auction>(&mut self, awarded: &Awarded<A>) -> Result<(), AllocError>
-        ensures { OnOk result (Grown (round_row (outcome_of awarded.now) ++ line_rows (session_of awarded.now.tables).lines) (session_of awarded.now.tables).lines self.old self.new) }
+    pub(crate) fn put_round(&mut self, outcome: Outcome, lines: &[Line]) -> Result<(), AllocError>
+        requires { SoundLines lines.now (length lines.now) }
+        ensures { OnOk result (Grown (round_row outcome ++ line_rows lines.now) lines.now self.old self.new) }
     {
-        let (volume, price) = awarded.volume_and_price();
-        let outcome = Outcome {
-            volume,
-            price,
-            members: awarded.member_count(),
-        };
         put_round(&mut self.text, outcome)?;
-        self.put_lines(awarded.lines())
+        self.put_lines(lines)
     }
 
     /// Adds the accounts of the members that have lines, ascending.
-    pub(crate) fn put_accounts<L: Ledger>(&mut self, ledger: &L) -> Result<(), AllocError>
-        ensures { OnOk result (self.new.text.items ≡ self.old.text.items ++ accounts_text (marked self.old.traded) (L.Ledger.session ledger.now).accounts) }
+    pub(crate) fn put_accounts<W, S>(&mut self, session: &Market<W, S>) -> Result<(), AllocError>
+        ensures { OnOk result (self.new.text.items ≡ self.old.text.items ++ accounts_text (marked self.old.traded) (session_of session.now.tables).accounts) }
     {
         for member in 1..=LAST_MEMBER {
-            self.put_member(ledger, member)?;
+            self.put_member(session, member)?;
         }
         Ok(())
     }
 
     /// Adds the account of a member, if it has lines.
-    fn put_member<L: Ledger>(&mut self, ledger: &L, member: u8) -> Result<(), AllocError>
+    fn put_member<W, S>(&mut self, session: &Market<W, S>, member: u8) -> Result<(), AllocError>
         requires { is_member member ≡ true }
-        ensures text { OnOk result (self.new.text.items ≡ self.old.text.items ++ account_piece (marked self.old.traded) (L.Ledger.session ledger.now).accounts member) }
+        ensures text { OnOk result (self.new.text.items ≡ self.old.text.items ++ account_piece (marked self.old.traded) (session_of session.now.tables).accounts member) }
         ensures marks { self.new.traded ≡ self.old.traded }
     {
         if self.traded[usize::from(member)] {
-            if let Ok(account) = ledger.account_of(member) {
+            if let Ok(account) = session.account(member) {
                 put_account(&mut self.text, member, account)?;
             }
         }

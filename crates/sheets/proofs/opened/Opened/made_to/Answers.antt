@@ -4,6 +4,7 @@ use Rattle.std.specs.Iterator.Adapters.{enumerate_source, enumerate_count}
 use Rattle.book.specs.declared.reading.Book.{Book}
 use Rattle.book.specs.declared.values.Entry.{Entry}
 use Rattle.book.specs.Reading.{entries, NoRounds}
+use Rattle.orders.specs.Held.{session_of}
 use Rattle.steps.specs.declared.call.Call.TheVariants.{Place as CallPlace, Withdraw as CallWithdraw}
 use Rattle.steps.specs.Ways.{is_continuous}
 use Rattle.sheets.specs.Calls.{calls_of, Suits}
@@ -21,49 +22,50 @@ loop-i-init g c =
 pub loop-i-preserved-in-Continue-1 : goal.loop-i-preserved-in-Continue-1
 loop-i-preserved-in-Continue-1 g c =
     let now = c.loop-i.session in
-    let same = c.loop-i.invariant.1 in
-    let ways = c.take_order.ensures.way in
+    let same = ap g.S.TakesOrders.way c.loop-i.invariant.1 in
+    let rules = c.place.ensures.rules in
     let steps = c.in-Some.ensures.steps in
     let handed = steps.0.1 ∙ ap (λ (x : Entry). x ∷ entries (enumerate_source c.next.new.self).rest.now) (sym c.from.ensures ∙ c.in-Place.is) in (
-      so_far_turn _ (g.L.Ledger.way now) _ _ _ _ _ _ _ _ c.loop-i.sheet _ (enumerate_count c.loop-i.i-iterator + 1) (c.in-Some.i + 1) (enumerate_count c.next.new.self + 1) same (ap calls_of handed) (ap CallPlace c.ask_of.ensures)
+      so_far_turn _ (g.S.TakesOrders.way now.rules) _ _ _ _ _ _ _ _ c.loop-i.sheet _ (enumerate_count c.loop-i.i-iterator + 1) (c.in-Some.i + 1) (enumerate_count c.next.new.self + 1) same (ap calls_of handed) (ap CallPlace c.ask_of.ensures)
           (omega (arith, steps.1)) (omega (arith, steps.1, steps.2))
-          c.in_ok-take_order-in-Place.ensures.sheet c.take_order.ensures.session c.loop-i.invariant.0,
-      ways ∙ same,
-      suits_rest (g.L.Ledger.way now) _ _ _ _ (sym ways) steps.0.1 c.loop-i.invariant.2,
+          c.in_ok-place-in-Place.ensures.sheet c.place.ensures.session c.loop-i.invariant.0,
+      rules ∙ c.loop-i.invariant.1,
+      suits_rest (g.S.TakesOrders.way now.rules) _ _ _ _ (sym (ap g.S.TakesOrders.way rules)) steps.0.1 c.loop-i.invariant.2,
     )
 
 pub loop-i-preserved-in-Continue-branch-2 : goal.loop-i-preserved-in-Continue-branch-2
 loop-i-preserved-in-Continue-branch-2 g c =
     let now = c.loop-i.session in
-    let same = c.loop-i.invariant.1 in
-    let ways = c.withdraw.ensures.way in
+    let same = ap g.S.TakesOrders.way c.loop-i.invariant.1 in
+    let rules = c.withdraw.ensures.rules in
     let steps = c.in-Some.ensures.steps in
     let handed = steps.0.1 ∙ ap (λ (x : Entry). x ∷ entries (enumerate_source c.next.new.self).rest.now) (sym c.from.ensures ∙ c.in-Withdraw.is) in (
-      so_far_turn _ (g.L.Ledger.way now) _ _ _ _ _ _ _ _ c.loop-i.sheet _ (enumerate_count c.loop-i.i-iterator + 1) (c.in-Some.i + 1) (enumerate_count c.next.new.self + 1) same (ap calls_of handed) (ap CallWithdraw c.order_of.ensures)
+      so_far_turn _ (g.S.TakesOrders.way now.rules) _ _ _ _ _ _ _ _ c.loop-i.sheet _ (enumerate_count c.loop-i.i-iterator + 1) (c.in-Some.i + 1) (enumerate_count c.next.new.self + 1) same (ap calls_of handed) (ap CallWithdraw c.order_of.ensures)
           (omega (arith, steps.1)) (omega (arith, steps.1, steps.2))
           c.in_ok-withdraw-in-Withdraw.ensures.sheet c.withdraw.ensures.session c.loop-i.invariant.0,
-      ways ∙ same,
-      suits_rest (g.L.Ledger.way now) _ _ _ _ (sym ways) steps.0.1 c.loop-i.invariant.2,
+      rules ∙ c.loop-i.invariant.1,
+      suits_rest (g.S.TakesOrders.way now.rules) _ _ _ _ (sym (ap g.S.TakesOrders.way rules)) steps.0.1 c.loop-i.invariant.2,
     )
 
 pub loop-i-preserved : goal.loop-i-preserved
 loop-i-preserved g c =
     let now = c.loop-i.session in
-    let same = c.loop-i.invariant.1 in
-    let made = c.in_ok-session-in-Round.ensures in
+    let same = ap g.S.TakesOrders.way c.loop-i.invariant.1 in
+    let made = c.round.ensures in
+    let rules = made.rules in
     let steps = c.in-Some.ensures.steps in
     let handed = steps.0.1 ∙ ap (λ (x : Entry). x ∷ entries (enumerate_source c.next.new.self).rest.now) (sym c.from.ensures ∙ c.in-Round.is) in
-    let batch : is_continuous (g.L.Ledger.way now) ≡ false = rounds_are_batch (g.L.Ledger.way now) _ (subst (Suits (g.L.Ledger.way now)) handed c.loop-i.invariant.2) in (
-      so_far_turn _ (g.L.Ledger.way now) _ _ _ _ _ _ _ _ c.loop-i.sheet _ (enumerate_count c.loop-i.i-iterator + 1) (c.in-Some.i + 1) (enumerate_count c.next.new.self + 1) same (ap calls_of handed) refl
+    let batch : is_continuous (g.S.TakesOrders.way now.rules) ≡ false = rounds_are_batch (g.S.TakesOrders.way now.rules) _ (subst (Suits (g.S.TakesOrders.way now.rules)) handed c.loop-i.invariant.2) in (
+      so_far_turn _ (g.S.TakesOrders.way now.rules) _ _ _ _ _ _ _ _ c.loop-i.sheet _ (enumerate_count c.loop-i.i-iterator + 1) (c.in-Some.i + 1) (enumerate_count c.next.new.self + 1) same (ap calls_of handed) refl
           (omega (arith, steps.1)) (omega (arith, steps.1, steps.2))
-          (made.sheet batch (c.in-Some.i + 1)) (made.session batch) c.loop-i.invariant.0,
-      made.way ∙ same,
-      suits_rest (g.L.Ledger.way now) _ _ _ _ (sym made.way) steps.0.1 c.loop-i.invariant.2,
+          (c.in_ok-round-in-Round.ensures.sheet batch (c.in-Some.i + 1)) (made.session batch) c.loop-i.invariant.0,
+      rules ∙ c.loop-i.invariant.1,
+      suits_rest (g.S.TakesOrders.way now.rules) _ _ _ _ (sym (ap g.S.TakesOrders.way rules)) steps.0.1 c.loop-i.invariant.2,
     )
 
 pub returns : goal.returns
 returns g c =
     λ opens.
-    so_far_whole _ _ c.args.self.book.header.period _ (g.L.Ledger.session c.loop-i.session) (calls_of (entries c.args.self.book.rest.now)) _ _ _ _ _
+    so_far_whole _ _ c.args.self.book.header.period _ (session_of c.loop-i.session.tables) (calls_of (entries c.args.self.book.rest.now)) _ _ _ _ _
     refl opens (ap calls_of c.in-None.ensures.steps.0.1.0)
     c.loop-i.invariant.0 c.in_ok-put_accounts.ensures
