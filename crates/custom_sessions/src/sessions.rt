@@ -11,7 +11,7 @@ use session::batch::Taking;
 use session::continuous::Continuous;
 use session::opening::Opening;
 use std::io;
-use steps::call::Call;
+use steps::call::{Call, OrderRef};
 
 /// The members whose accounts are shown.
 const MEMBERS: u8 = 7;
@@ -53,10 +53,10 @@ pub fn uniform(rt: &HostRuntime, figures: Opening) -> io::Result<()> {
         Call::Place(normal(3, Side::Buy, 40, 400)),
         Call::Place(normal(4, Side::Sell, 30, 1_200)),
         Call::Place(normal(5, Side::Sell, 20, 300)),
-        Call::Withdraw {
+        Call::Withdraw(OrderRef {
             member: 5,
             number: 5,
-        },
+        }),
         Call::Place(normal(6, Side::Sell, 45, 900)),
     ];
     let session = show_round(rt, replay(figures, rules, &calls))?;
@@ -75,10 +75,10 @@ pub fn paired(rt: &HostRuntime, figures: Opening) -> io::Result<()> {
         Call::Place(normal(3, Side::Sell, 240, 600)),
         Call::Place(normal(4, Side::Sell, 270, 900)),
         Call::Place(normal(5, Side::Buy, 310, 400)),
-        Call::Withdraw {
+        Call::Withdraw(OrderRef {
             member: 5,
             number: 5,
-        },
+        }),
     ];
     show_round(rt, replay(figures, rules, &calls))?;
     Ok(())
@@ -110,7 +110,11 @@ pub fn continuous(rt: &HostRuntime, figures: Opening) -> io::Result<()> {
             print_lines(rt, session.lines())?;
         }
     }
-    match session.withdraw(6, 6) {
+    let order = OrderRef {
+        member: 6,
+        number: 6,
+    };
+    match session.withdraw(order) {
         Ok(left) => println!(rt; "order 6 withdrawn: {left}")?,
         Err(refusal) => print_refusal(rt, refusal)?,
     }

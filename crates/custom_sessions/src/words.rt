@@ -4,6 +4,7 @@ use std::io;
 use steps::call::Acceptance;
 use steps::refusal::Refusal;
 
+// No `Display`: the type is another crate's, and the words are this program's.
 fn side_word(side: Side) -> &'static str {
     match side {
         Side::Buy => "buy",

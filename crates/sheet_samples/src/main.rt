@@ -2,21 +2,22 @@
 //! a book that reads is written again and compared with what was read.
 #![tactic(auto)]
 
-use book::{open, write};
+use book::{Entry, open, write};
 use listing::listing;
 use sheets::sheet;
 use std::alloc::{AllocError, Global};
 use std::fs;
 
 /// Whether the writing of what a book reads as is that book; `None` for a book that does not read.
+// As in `samples`: a crate of its own for one function of two programs would be no plainer.
 fn written_alike(heap: Global, bytes: &[u8]) -> Result<Option<bool>, AllocError> {
-    let Ok(mut book) = open(bytes) else {
+    let Ok(book) = open(bytes) else {
         return Ok(None);
     };
     let header = book.header();
     let mut entries = Vec::new(heap);
-    while let Some(record) = book.next() {
-        entries.push(record.entry())?;
+    for record in book {
+        entries.push(Entry::from(record))?;
     }
     let mut out = vec![in heap; 0; bytes.len()]?;
     let done = write(header, entries.as_slice(), out.as_mut_slice());

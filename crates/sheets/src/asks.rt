@@ -6,7 +6,8 @@ use book::{Placement, Withdrawal};
 use orders::order::{Ask, Kind, Side};
 use steps::call::OrderRef;
 
-/// The ask of a placement. It is no `From`, nor is the next, since both types are of other crates.
+/// The ask of a placement. It is no `From`, nor is the next, since both types are of other crates; and it goes by the
+/// codes, since `TryFrom` would answer a question that a record of a book has passed.
 pub(crate) fn ask_of(placement: Placement) -> Ask
     ensures { result ≡ ask_of placement }
 {
