@@ -94,6 +94,7 @@ fn append_records(out: &mut String, book: Book) -> Result<(), AllocError>
     Ok(())
 }
 
+// Apart from `listing`: its clause, over every longer input, follows from this one.
 fn listed(heap: Global, bytes: &[u8]) -> Result<String, AllocError>
     ensures { IfOk result (λ text. string_bytes text ≡ listing_of bytes.now) }
 {

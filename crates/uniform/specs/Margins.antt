@@ -19,10 +19,6 @@ use Rattle.steps.specs.Uniform.{lines_at}
 use Rattle.uniform.specs.declared.margin.Margin.{Margin}
 use Rattle.uniform.specs.declared.margin.Margins.{Margins}
 
--- V of figures
-abbrev pub figures_volume : Figures → ℕ
-figures_volume f = volume highest_tick (demand_of f) (supply_of f)
-
 -- what a side has open at p, of demand D and supply S
 abbrev pub open_at : Bool → (ℕ → ℕ) → (ℕ → ℕ) → ℕ → ℕ
 open_at true D S p = D p
