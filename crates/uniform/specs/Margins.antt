@@ -8,8 +8,6 @@ use Rattle.curves.specs.Orders.{on, better}
 use Rattle.curves.specs.Sharing.{SharingMeaning}
 use Rattle.curves.specs.Filling.{grouped}
 use Rattle.ticks.specs.Ticks.{highest_tick}
-use Rattle.ticks.specs.Seen.{demand_of, supply_of}
-use Rattle.ticks.specs.declared.figures.Figures.{Figures}
 use Rattle.orders.specs.declared.order.Order.{Order}
 use Rattle.orders.specs.declared.order.Line.{Line}
 use Rattle.orders.specs.Orders.{most_orders, is_standing, standing, buys, bid_of, at}
