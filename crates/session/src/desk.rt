@@ -1,9 +1,8 @@
 //! The calls on the plain tables, for every kind of session.
-ghost use Rattle.std.specs.Prelude.{◌≡◌, ℕ, ◌≤◌, not, Result as Answers};
+ghost use Rattle.std.specs.Prelude.{◌≡◌, ℕ, ◌≤◌, Result as Answers};
 ghost use Rattle.std.specs.List.{list_any};
 ghost use Rattle.steps.specs.declared.refusal.Refusal.{Refusal as Why};
 ghost use Rattle.ticks.specs.Ticks.{highest_tick};
-ghost use Rattle.orders.specs.Orders.{buys};
 ghost use Rattle.orders.specs.Settlement.{Session};
 ghost use Rattle.orders.specs.Held.{session_of};
 ghost use Rattle.session.specs.Entries.{entered};
