@@ -18,6 +18,7 @@ pub enum Way {
 }
 
 impl Way {
+    // A name, here and below, and no `Display`: the listing has a word for a code that has no name.
     /// Its name in plain words.
     pub fn name(self) -> &'static str
         ensures { result.now ≡ name_of_way self }
@@ -87,6 +88,7 @@ impl TryFrom<u8> for Sharing {
     }
 }
 
+// The format's own side and kind: `book` knows no session, and `orders` no book.
 /// The side of an order.
 #[derive(Clone, Copy, PartialEq, Eq, Debug)]
 pub enum Side {

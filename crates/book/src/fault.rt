@@ -73,6 +73,7 @@ impl fmt::Display for Question {
     }
 }
 
+// 0 is the header's number in a fault, as it is printed.
 /// The first question that is answered no, and the record that it is about: counted from 1, and 0 for the header.
 #[derive(Clone, Copy, PartialEq, Eq, Debug)]
 pub struct Fault {

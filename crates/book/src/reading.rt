@@ -52,6 +52,7 @@ fn ask_header(word: u64, len: usize) -> Result<(), Question>
 pub(crate) fn ask_record(way: u8, word: u64) -> Result<(), Question>
     ensures { result_err result ≡ first_no (record_questions way word) }
 {
+    // Kinds by number, in one match with a guard and ranges, as asked for.
     let spare = match KIND.cut(word) {
         0 => match ORDER_KIND.cut(word) {
             0..=2 => PLACE_SPARE.cut(word),
@@ -69,7 +70,7 @@ fn ask_records(way: u8, s: &[u8]) -> Result<(), Fault>
     ensures { result_err result ≡ first_fault (record_questions way) 1 (words s.now) }
 {
     let mut rest = s;
-    // Counted by hand: the slice pattern itself takes the next six bytes, and leaves no iterator to enumerate.
+    // Counted by hand: the slice pattern that is asked for takes the next six bytes, and leaves no iterator to enumerate.
     let mut record: usize = 1;
     while let [a, b, c, d, e, f, more @ ..] = rest {
         if let Err(question) = ask_record(way, word_of(&[*a, *b, *c, *d, *e, *f])) {
@@ -107,7 +108,7 @@ impl<'a> From<Record<'a>> for Entry {
     }
 }
 
-// No `From` for these two: six bytes by themselves do not say whether they place or withdraw, and the names do.
+// No `From` for these two, nor for a header's word: bytes by themselves do not say what they hold, and the names do.
 
 /// The order that the six bytes of a place hold.
 pub fn placement_of(six: &[u8; 6]) -> Placement
@@ -206,6 +207,7 @@ impl<'a> Iterator for Book<'a> {
         let [_, _, _, _, _, _, rest @ ..] = s else {
             return None;
         };
+        // The pattern lends no array of six.
         let six = s.first_chunk::<6>()?;
         self.rest = rest;
         Some(Record::from(six))

@@ -14,7 +14,7 @@ use std::io;
 use steps::call::{Call, OrderRef};
 
 /// The members whose accounts are shown.
-const MEMBERS: u8 = 7;
+const SHOWN: u8 = 7;
 
 /// A normal order.
 fn normal(member: u8, side: Side, limit: u16, quantity: u32) -> Ask
@@ -37,7 +37,7 @@ fn show_round<A: Auction + Drop>(rt: &HostRuntime, session: Taking<A>) -> io::Re
     println!(rt; "volume {volume}, price {price}, members {members}")?;
     print_lines(rt, awarded.lines())?;
     let session = awarded.carry_over();
-    for member in 1..=MEMBERS {
+    for member in 1..=SHOWN {
         print_account(rt, member, session.account(member))?;
     }
     Ok(session)
@@ -118,7 +118,7 @@ pub fn continuous(rt: &HostRuntime, figures: Opening) -> io::Result<()> {
         Ok(left) => println!(rt; "order 6 withdrawn: {left}")?,
         Err(refusal) => print_refusal(rt, refusal)?,
     }
-    for member in 1..=MEMBERS {
+    for member in 1..=SHOWN {
         print_account(rt, member, session.account(member))?;
     }
     Ok(())

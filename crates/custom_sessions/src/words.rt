@@ -1,10 +1,9 @@
-//! Lines, accounts and answers in words.
+//! Lines, accounts and answers in words. Functions, and no `Display`: the types are other crates', and the words are this program's.
 use orders::order::{Account, Line, Side};
 use std::io;
 use steps::call::Acceptance;
 use steps::refusal::Refusal;
 
-// No `Display`: the type is another crate's, and the words are this program's.
 fn side_word(side: Side) -> &'static str {
     match side {
         Side::Buy => "buy",

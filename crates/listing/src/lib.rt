@@ -1,7 +1,7 @@
 //! A book in plain words.
 #![tactic(auto)]
 
-ghost use Rattle.std.specs.Prelude.{◌≡◌, ℕ, ◌+◌, ◌^◌, ◌<◌, ◌≤◌, List, [], ◌∷◌, ◌++◌, length, take, IfOk, string_bytes, OnOk};
+ghost use Rattle.std.specs.Prelude.{◌≡◌, ℕ, ◌+◌, List, ◌++◌, length, take, IfOk, string_bytes, OnOk};
 ghost use Rattle.book.specs.Reading.{entries};
 ghost use Rattle.listing.specs.Words.{side_name, kind_name};
 ghost use Rattle.listing.specs.Listing.{named_line, number_line, header_lines, record_line, record_lines, fault_line, listing_of};
@@ -94,6 +94,7 @@ fn append_records(out: &mut String, book: Book) -> Result<(), AllocError>
     Ok(())
 }
 
+// Apart from `listing`: its clause, over every longer input, follows from this one.
 fn listed(heap: Global, bytes: &[u8]) -> Result<String, AllocError>
     ensures { IfOk result (λ text. string_bytes text ≡ listing_of bytes.now) }
 {

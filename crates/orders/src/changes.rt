@@ -77,6 +77,8 @@ impl Tables {
         }
     }
 
+    // A slice, and no type of its own that keeps these facts: few and private functions ask for them, and each would take the
+    // wrapper off again.
     /// Every order ever numbered, by number.
     pub fn placed(&self) -> &[Order]
         ensures is { result.now ≡ (session_of self.now).orders }
@@ -116,7 +118,7 @@ impl Tables {
     pub fn apply(&mut self, place: usize, event: Event)
         ensures { session_of self.new ≡ with_orders (changed place event (session_of self.old).orders) (session_of self.old) }
     {
-        // By place, and not by `get_mut`: no proof is made where a field of these tables is lent out as a slice.
+        // By place: after `get_mut` of an array a proof knows its length, and none of its elements.
         if place < self.count {
             self.orders[place] = self.orders[place].after(event);
         }

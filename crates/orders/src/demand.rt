@@ -49,6 +49,7 @@ impl Tables {
         sum
     }
 
+    // Two words for one text, `willing`, as the definitions have two.
     /// Demand at a tick.
     pub fn demand_at(&self, tick: Tick) -> u32
         ensures { result ≡ demand highest_tick (bids_of (session_of self.now).orders) tick.value }

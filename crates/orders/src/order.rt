@@ -107,7 +107,7 @@ impl Side {
 }
 
 impl Order {
-    // A constant, and no `Default`: a side and an order have no value that would serve where none is given.
+    // A constant, as an array's repeat asks for, and no `Default`: an order has no value that would serve where none is given.
     /// What stands in a place of a table that holds no order.
     pub const NONE: Order = Order {
         number: 0,
@@ -166,6 +166,7 @@ impl Order {
 }
 
 impl Line {
+    // As `Order::NONE`.
     /// What stands in a place of a table that holds no line.
     pub const NONE: Line = Line {
         side: Side::Buy,
@@ -185,6 +186,7 @@ impl Line {
 }
 
 impl Account {
+    // As `Order::NONE`: a `Default` would be a second word for it.
     /// An account that no line has come to.
     pub const NONE: Account = Account { pays: 0, gets: 0 };
 }

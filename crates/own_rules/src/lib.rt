@@ -15,6 +15,7 @@ use ranking::{OrderFields, Ranking};
 use rules::pair::PairPrice;
 use rules::price::PriceRule;
 use rules::sharing::SharingRule;
+use std::cmp::Reverse;
 use ticks::figures::Figures;
 use ticks::search::{TickTest, lowest_tick};
 use ticks::tick::Tick;
@@ -103,7 +104,7 @@ impl TieBreak for LargerLeft {
     ghost ranks = { Prim.search rules };
 
     fn is_ahead(order: &OrderFields, other: &OrderFields) -> bool {
-        other.left < order.left || (order.left == other.left && order.number < other.number)
+        (Reverse(order.left), order.number) < (Reverse(other.left), other.number)
     }
 }
 

@@ -29,7 +29,8 @@ fn stands(side: Side, order: &Order) -> bool
     order.side == side && order.standing() > 0
 }
 
-/// What a ranking reads of the order. A function, since `From` may be written only beside one of the two types.
+// A function: a `From` would stand in `orders`, away from the definition that it computes.
+/// What a ranking reads of the order.
 fn fields_of(order: &Order) -> OrderFields
     ensures { result ≡ fields_of order.now }
 {
@@ -61,6 +62,7 @@ impl<'a, Q: OrderQuote> Places<Q> for Standing<'a, Q> {
 
     fn at(&self, place: usize) -> Option<Q> {
         let order = self.orders.get(place)?;
+        // After `filter` and `map` the check leaves an answer open.
         if stands(self.side, order) {
             Some(Q::make(&fields_of(order)))
         } else {

@@ -29,6 +29,7 @@ struct Meeting {
     price: Tick,
 }
 
+// `pairs_of` spells its rules out: a clause names the members of a bound one by one.
 /// The best buy and the best sell, where their limits meet.
 fn best_pair<R: Ranking, P: PairPrice>(orders: &[Order], price: &P) -> Option<Meeting>
     requires { Sound orders.now (length orders.now) }

@@ -1,6 +1,6 @@
 //! The one text that finds the best, over places in a plain array.
 ghost use Rattle.std.specs.Prelude.{◌≡◌, ℕ, ◌≤◌, None, Option};
-ghost use Rattle.ranking.specs.Best.{leads, best_of, place_of, Distinct, Found};
+ghost use Rattle.ranking.specs.Best.{best_of, place_of, Distinct, Found};
 
 use crate::Ranked;
 

@@ -12,9 +12,9 @@ use history::{continuous_sessions_hold, every_history_holds};
 use orders::order::Ask;
 use ranking::Ranking;
 use rules::pair::PairPrice;
-use session::auction::Auction;
+use session::auction::{Auction, PairedRules};
 use session::batch::Taking;
-use session::continuous::{AtOnce, Continuous, ContinuousRules};
+use session::continuous::{AtOnce, Continuous};
 use session::market::{Market, TakesOrders};
 use session::opening::Opening;
 use steps::call::{Call, OrderRef};
@@ -47,6 +47,7 @@ pub fn replay<A: Auction>(figures: Opening, auction: A, calls: &[Call]) -> Takin
     session
 }
 
+// Not `Call`, since a continuous session has no round to make.
 /// A call that is no round, as all calls of a continuous session are.
 #[derive(Clone, Copy, PartialEq, Eq, Debug)]
 pub enum Deal {
@@ -75,11 +76,11 @@ pub fn replay_continuous<R: Ranking, P: PairPrice>(
     price: P,
     deals: &[Deal],
 ) -> Continuous<R, P>
-    ensures run { session_of result.tables ≡ (run (⟦<AtOnce as TakesOrders<ContinuousRules<R, P>>>⟧.way result.rules) figures.period.quarters (map call_of deals.now)).session }
+    ensures run { session_of result.tables ≡ (run (⟦<AtOnce as TakesOrders<PairedRules<R, P>>>⟧.way result.rules) figures.period.quarters (map call_of deals.now)).session }
     ensures rules { result.rules.price ≡ price }
-    ensures holds { Holds (⟦<AtOnce as TakesOrders<ContinuousRules<R, P>>>⟧.way result.rules) figures.period.quarters (run (⟦<AtOnce as TakesOrders<ContinuousRules<R, P>>>⟧.way result.rules) figures.period.quarters (map call_of deals.now)) }
+    ensures holds { Holds (⟦<AtOnce as TakesOrders<PairedRules<R, P>>>⟧.way result.rules) figures.period.quarters (run (⟦<AtOnce as TakesOrders<PairedRules<R, P>>>⟧.way result.rules) figures.period.quarters (map call_of deals.now)) }
 {
-    // A loop of its own beside that of `replay`: a round moves a batch session through its states, a deal changes it in place.
+    // A loop of its own beside that of `replay`, since the calls differ: a continuous session has no rounds.
     continuous_sessions_hold::<R, P>();
     let mut session = Continuous::open(figures, price);
     for deal in deals {

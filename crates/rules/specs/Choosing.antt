@@ -6,7 +6,7 @@ use Rattle.curves.specs.Sums.{lowest, highest}
 use Rattle.curves.specs.Curves.{Curves, executable, volume}
 use Rattle.curves.proofs.Sums.{greatest_le, greatest_at, lowest_le, lowest_passes, highest_ge, highest_passes}
 use Rattle.rules.specs.Prices.{smallest, none, candidate, unbalance, least_unbalance, kept_ticks, over, under, clamp, choice, principles_price}
-use Rattle.ticks.proofs.Ends.{lowest_most, lowest_never, highest_never}
+use Rattle.ticks.proofs.Ends.{lowest_most, highest_most, lowest_never, highest_never}
 
 pub smallest_none : (P : ℕ → Bool) (f : ℕ → ℕ) (d : ℕ) → smallest 0 P f d ≡ d
 unfolding smallest
@@ -77,6 +77,18 @@ module _ (n u : ℕ) (K : ℕ → Bool) (D S : ℕ → ℕ) (r : ℕ) where
     pub over_and_under : (q p : ℕ) → q < n → under K D S q ≡ true → p < n → over K D S p ≡ true →
         clamp r (highest n (over K D S)) (lowest n (under K D S)) ≡ choice n u K D S r
     over_and_under q p hq yq hp yp = rw (ne_eqb u 0 (λ e. omega arith), none_fails (under K D S) q hq yq, none_fails (over K D S) p hp yp) refl
+
+-- whatever is kept, the choice is a tick
+pub choice_is_tick : (top u : ℕ) (K : ℕ → Bool) (D S : ℕ → ℕ) (r : ℕ) → choice (suc top) u K D S r ≤ top
+choice_is_tick top u K D S r =
+    let high = highest_most top K in
+    let Tick = λ (p : ℕ). p ≤ top in
+    cond_both (u == 0) _ _ Tick (λ _. omega arith)
+    (λ _. cond_both (none (suc top) (under K D S)) _ _ Tick (λ _. high)
+    (λ some. let (h, y) = met (suc top) (under K D S) some in
+    cond_both (none (suc top) (over K D S)) _ _ Tick
+    (λ _. let (k, _) = and_parts (K (lowest (suc top) (under K D S))) _ y in omega (arith, lowest_le (suc top) K _ h k))
+    (λ _. omega arith)))
 
 module _ (top : ℕ) (D S : ℕ → ℕ) (c : Curves top D S) where
   -- a tick between two of executable volume V

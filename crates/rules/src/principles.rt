@@ -41,6 +41,7 @@ impl<'a> TickTest for Kept<'a> {
     }
 }
 
+// One test for both, by a flag: two structs would differ in one sign.
 /// A kept tick has demand above supply, or else supply above demand.
 #[derive(Drop)]
 struct Leaning<'a> {
@@ -79,6 +80,7 @@ fn least_unbalance(candidate: Candidate) -> u64
     let all_demand = figures.demand_at(Tick { value: 0 });
     let all_supply = figures.supply_at(Tick { value: HIGHEST });
     let mut least = all_demand.max(all_supply);
+    // A loop: what the least of no candidate is stands before it.
     for value in 0..=HIGHEST {
         let tick = Tick { value };
         if candidate.passes(tick) {

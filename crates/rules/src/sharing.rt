@@ -17,6 +17,7 @@ pub trait SharingRule {
     ghost shares: { SharingLaw meaning };
 }
 
+// Written for each rule by a key, and not once for all: such a rule may share in another way.
 /// The earliest first.
 #[derive(Clone, Copy)]
 pub struct EarliestFirst;

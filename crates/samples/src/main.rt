@@ -9,7 +9,7 @@ use std::alloc::{AllocError, Global};
 use std::fs;
 
 /// Whether the writing of what a book reads as is that book; `None` for a book that does not read.
-// As in `sheet_samples`: a crate of its own for one function of two programs would be no plainer.
+// As in `sheet_samples`, until one program takes the other's place: a crate for one function meanwhile would be no plainer.
 fn written_alike(heap: Global, bytes: &[u8]) -> Result<Option<bool>, AllocError> {
     let Ok(book) = open(bytes) else {
         return Ok(None);

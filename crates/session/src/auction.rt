@@ -21,6 +21,7 @@ use uniform::clear;
 pub trait Auction {
     ghost way: { Self → Way };
 
+    // A pair; price 0 is what the sheet shows where nothing trades, and in a paired round.
     /// Settles the lines of a round, and answers its volume and its price.
     fn settle(&self, tables: &mut Tables) -> (u64, u16)
         ensures volume { result.0 ≡ round_volume (way self.now) (session_of tables.old).orders }
@@ -32,10 +33,10 @@ pub trait Auction {
     ghost batch: { (auction : Self) → is_continuous (way auction) ≡ false };
 }
 
-/// The rules of a paired session: its pair price, and the ranking `R`.
+/// The rules of a paired or a continuous session: its pair price, and the ranking `R`.
 #[derive(Drop)]
 pub struct PairedRules<R, P> {
-    price: P,
+    pub(crate) price: P,
     ranking: PhantomData<R>,
 }
 

@@ -10,7 +10,7 @@ ghost use Rattle.session.specs.Awards.{outcome_of};
 ghost use Rattle.steps.specs.Calls.{round, demand_at, supply_at};
 
 use crate::auction::Auction;
-use crate::market::{Market, ShowsLines, TakesOrders};
+use crate::market::{Market, ShowsLines, TakesOrders, TakingState};
 use crate::opening::Opening;
 use orders::tables::Tables;
 use steps::call::Outcome;
@@ -45,6 +45,8 @@ impl<A: Auction> TakesOrders<A> for Open {
         tables.clear_lines();
     }
 }
+
+impl TakingState for Open {}
 
 impl ShowsLines for Open {}
 
@@ -93,6 +95,7 @@ impl<A: Auction> Market<A, Open> {
 }
 
 impl<A: Auction> Market<A, Closed> {
+    // Two calls of two lines: one over the side would say no less.
     /// Demand at a tick.
     pub fn demand_at(&self, tick: u16) -> Result<u32, Refusal>
         ensures { result ≡ demand_at tick (session_of self.now.tables) }

@@ -1,9 +1,8 @@
 //! The calls on the plain tables, for every kind of session.
-ghost use Rattle.std.specs.Prelude.{◌≡◌, ℕ, ◌≤◌, not, Result as Answers};
+ghost use Rattle.std.specs.Prelude.{◌≡◌, ℕ, ◌≤◌, Result as Answers};
 ghost use Rattle.std.specs.List.{list_any};
 ghost use Rattle.steps.specs.declared.refusal.Refusal.{Refusal as Why};
 ghost use Rattle.ticks.specs.Ticks.{highest_tick};
-ghost use Rattle.orders.specs.Orders.{buys};
 ghost use Rattle.orders.specs.Settlement.{Session};
 ghost use Rattle.orders.specs.Held.{session_of};
 ghost use Rattle.session.specs.Entries.{entered};
@@ -42,6 +41,7 @@ pub(crate) fn enter(tables: &mut Tables, ask: Ask, continuous: bool) -> Result<u
     Refusal::Quantity.ask((LEAST_QUANTITY..=MOST_QUANTITY).contains(&ask.quantity))?;
     Refusal::Kind.ask(ask.kind == Kind::Normal || continuous)?;
     Refusal::OtherSide.ask(!is_opposed(tables.placed(), ask))?;
+    // What is out of its bounds is refused above; what can be wanting here is a number.
     let number = tables.append(ask).ok_or(Refusal::Numbers)?;
     tables.clear_lines();
     Ok(number)

@@ -23,10 +23,14 @@ pub struct Market<W, S> {
     pub(crate) state: S,
 }
 
+/// The states of this crate that take orders: no other crate can make a state take them.
+pub(crate) trait TakingState {}
+
 /// A state in which orders are placed and withdrawn, under the rules `W`.
-pub trait TakesOrders<W> {
+pub trait TakesOrders<W>: TakingState {
     ghost way: { W → Way };
 
+    // A flag: the one answer in which the questions about a place differ.
     /// Whether orders trade as they are placed.
     fn is_continuous() -> bool
         ensures { (rules : W) → result ≡ is_continuous (way rules) };

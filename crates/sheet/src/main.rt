@@ -14,6 +14,7 @@ fn run(rt: &HostRuntime) -> anyhow::Result<()> {
             rt.write_all(text.as_bytes())?;
             Ok(())
         }
+        // The text stays until `whole_sheet` takes this program's place.
         None => Err(anyhow!("the book reads, but clearing is not built yet")),
     }
 }

@@ -1,20 +1,13 @@
 -- The way of a book, by the numbers of its header.
-use Rattle.std.proofs.Common.{◌≡◌, ℕ, ◌<◌, ◌≤◌, Bool, true, false, cond, ◌&&◌, ◌||◌, eqb, ltb, List, [], ◌∷◌, map, drop, Some, None, Ok, Err, Option, Result, sym, ap, ◌∙◌, subst, inl, inr, arith}
-use Rattle.std.specs.List.{AllByRecursion}
-use Rattle.std.proofs.lemmas.Bool.{ne_eqb, eq-eqb, ltb-true, le-ltb, or_cases, and_parts, cases_eq, false_from_ne_true, true≢false}
+use Rattle.std.proofs.Common.{◌≡◌, ℕ, Bool, true, false, cond, eqb, List, ◌∷◌, ap, ◌∙◌, subst}
+use Rattle.std.proofs.lemmas.Bool.{false_from_ne_true, true≢false}
 use Rattle.curves.specs.Pricing.{PriceMeaning}
 use Rattle.rules.specs.Prices.{crossing, principles}
 use Rattle.rules.specs.Sharing.{earliest_first, largest_first, pro_rata}
 use Rattle.rules.specs.Pairs.{buyers_price, sellers_price, half_the_sum}
-use Rattle.packing.specs.Fields.{word}
 use Rattle.book.specs.declared.values.Header.{Header}
 use Rattle.book.specs.declared.values.Entry.{Entry}
-use Rattle.book.specs.declared.fault.Question.{Question}
-use Rattle.book.specs.declared.fault.Fault.{Fault}
-use Rattle.book.specs.Format.{way, kind, header_of, entry_of}
-use Rattle.book.specs.Questions.{header_questions, record_questions, first_no, first_fault}
 use Rattle.book.specs.Reading.{NoRounds}
-use Rattle.book.specs.Laws.{Passes, Faultless}
 use Rattle.book.specs.declared.values.Entry.TheVariants.{Round}
 use Rattle.steps.specs.Ways.{Way, Uniform, is_continuous}
 use Rattle.sheets.specs.Calls.{sharing_of, paired_at, continuous_way, way_of, Suits}

@@ -1,5 +1,5 @@
 //! The sheet of a book's bytes.
-ghost use Rattle.std.specs.Prelude.{◌≡◌, ℕ, ◌<◌, ◌≤◌, List, length, take, IfOk};
+ghost use Rattle.std.specs.Prelude.{◌≡◌, ℕ, List, take, IfOk};
 ghost use Rattle.book.specs.Reading.{entries};
 ghost use Rattle.book.specs.declared.values.Header.{Header};
 ghost use Rattle.history.specs.Histories.{HistoriesHold};

@@ -10,9 +10,9 @@ use crate::growing::Sheet;
 use orders::order::Ask;
 use ranking::Ranking;
 use rules::pair::PairPrice;
-use session::auction::Auction;
+use session::auction::{Auction, PairedRules};
 use session::batch::Open;
-use session::continuous::{AtOnce, ContinuousRules};
+use session::continuous::AtOnce;
 use session::market::{Market, ShowsLines, TakesOrders};
 use std::alloc::AllocError;
 use steps::call::OrderRef;
@@ -67,9 +67,9 @@ impl<A: Auction> MakesRounds<A> for Open {
     }
 }
 
-impl<R: Ranking, P: PairPrice> MakesRounds<ContinuousRules<R, P>> for AtOnce {
+impl<R: Ranking, P: PairPrice> MakesRounds<PairedRules<R, P>> for AtOnce {
     fn round(
-        _session: &mut Market<ContinuousRules<R, P>, AtOnce>,
+        _session: &mut Market<PairedRules<R, P>, AtOnce>,
         _sheet: &mut Sheet,
     ) -> Result<(), AllocError> {
         Ok(())

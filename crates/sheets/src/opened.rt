@@ -1,15 +1,12 @@
 //! A book that reads and that opens a session: its records, made as calls of that session, and the text that they give.
-ghost use Rattle.std.specs.Prelude.{◌≡◌, ℕ, ◌<◌, ◌≤◌, length, IfOk, OnOk};
+ghost use Rattle.std.specs.Prelude.{◌≡◌, ◌≤◌, IfOk};
 ghost use Rattle.book.specs.Reading.{entries};
 ghost use Rattle.orders.specs.Settlement.{opening};
 ghost use Rattle.orders.specs.Held.{session_of};
-ghost use Rattle.steps.specs.declared.call.Call.TheVariants.{Withdraw};
 ghost use Rattle.steps.specs.Ways.{Uniform as UniformWay};
-ghost use Rattle.steps.specs.Calls.{step};
 ghost use Rattle.history.specs.Histories.{run};
 ghost use Rattle.sheets.specs.Calls.{sharing_of, paired_at, continuous_way, way_of, calls_of, Suits};
 ghost use Rattle.sheets.specs.Sheet.{history_text};
-ghost use Rattle.sheets.specs.Growing.{Told};
 
 use crate::asks::{ask_of, order_of};
 use crate::calls::{MakesRounds, place, withdraw};
@@ -26,7 +23,6 @@ use session::continuous::Continuous;
 use session::market::{Market, TakesOrders};
 use session::opening::Opening;
 use std::alloc::{AllocError, Global};
-use steps::call::OrderRef;
 
 /// A book that reads, and the figures that its header opens a session with.
 pub(crate) struct Opened<'a> {

@@ -3,7 +3,6 @@ ghost use Rattle.std.specs.Prelude.{◌≡◌, true, [], ◌++◌, length, OnOk}
 ghost use Rattle.orders.specs.Held.{session_of};
 ghost use Rattle.orders.specs.Kept.{SoundLines};
 ghost use Rattle.steps.specs.Calls.{is_member};
-ghost use Rattle.session.specs.Awards.{outcome_of};
 ghost use Rattle.sheets.specs.Rows.{no_row, round_row, line_rows};
 ghost use Rattle.sheets.specs.Sheet.{account_piece, accounts_text};
 ghost use Rattle.sheets.specs.Growing.{Marks, marked, Grown};

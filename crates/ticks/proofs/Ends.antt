@@ -1,6 +1,6 @@
 -- The lowest and the highest place that passes, as a search finds them.
 use Rattle.std.proofs.Common.{◌≡◌, ℕ, zero, suc, ◌<◌, ◌≤◌, Bool, true, false, refl, inl, inr, arith}
-use Rattle.std.proofs.lemmas.Bool.{cases_lt, both_ways}
+use Rattle.std.proofs.lemmas.Bool.{cases_lt, cases_Bool, both_ways}
 use Rattle.curves.specs.Sums.{lowest, highest}
 use Rattle.curves.proofs.Sums.{lowest_le, lowest_passes, highest_ge, highest_passes}
 
@@ -25,6 +25,11 @@ lowest_never n P all =
       | inl l ↦ absurd (both_ways (P (lowest n P)) (all (lowest n P) l) (lowest_passes n P l))
       | inr g ↦ omega arith
     ]
+
+pub highest_most : (n : ℕ) (P : ℕ → Bool) → highest (suc n) P ≤ n
+unfolding highest
+highest_most zero P = grind arith
+highest_most (suc n) P = let ih = highest_most n P in elim (cases_Bool (P (suc n))) [ inl y ↦ rw y (omega arith) | inr z ↦ rw z (omega arith) ]
 
 -- the last that passes is the highest
 pub highest_last : (n : ℕ) (P : ℕ → Bool) (i : ℕ) → i < n → P i ≡ true → ((k : ℕ) → i < k → k < n → P k ≡ false) → i ≡ highest n P

@@ -63,11 +63,9 @@ impl Figures {
     pub fn supply_below(&self, tick: Tick) -> u64
         ensures { result ≡ before (curve self.now.supply) tick.value }
     {
-        if tick.value == 0 {
-            0
-        } else {
-            self.supply[tick.value as usize - 1]
-        }
+        (tick.value as usize)
+            .checked_sub(1)
+            .map_or(0, |below| self.supply[below])
     }
 
     /// V: the greatest executable volume of all ticks.
@@ -89,7 +87,8 @@ fn greatest_volume(demand: &[u64; TICKS], supply: &[u64; TICKS]) -> u64
 }
 
 /// Demand at all ticks: the sums from the highest limit down.
-// Two loops for two directions: one function for both would turn the arrays round and back, which is no plainer.
+// Two loops for two directions: one function for both would turn the arrays round and back, which is no plainer; nor is an
+// enumeration turned round.
 fn falling(wanted: &[u32; TICKS]) -> [u64; TICKS]
     ensures { result ≡ figures highest_tick (summed true wanted.now) }
 {

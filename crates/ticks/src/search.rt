@@ -13,6 +13,7 @@ pub trait TickTest {
         ensures { result ≡ passing self.now tick.value };
 }
 
+// Loops: after `find` of a range the check leaves the closure and the answer open. Two, since a range and its reverse are two types.
 /// The lowest tick that passes.
 pub fn lowest_tick<T: TickTest>(test: &T) -> Option<Tick>
     ensures { MatchOption result (NonePasses (T.TickTest.passing test.now)) (λ t. IsLowest (T.TickTest.passing test.now) t.value) }

@@ -8,8 +8,6 @@ use Rattle.curves.specs.Orders.{on, better}
 use Rattle.curves.specs.Sharing.{SharingMeaning}
 use Rattle.curves.specs.Filling.{grouped}
 use Rattle.ticks.specs.Ticks.{highest_tick}
-use Rattle.ticks.specs.Seen.{demand_of, supply_of}
-use Rattle.ticks.specs.declared.figures.Figures.{Figures}
 use Rattle.orders.specs.declared.order.Order.{Order}
 use Rattle.orders.specs.declared.order.Line.{Line}
 use Rattle.orders.specs.Orders.{most_orders, is_standing, standing, buys, bid_of, at}
@@ -18,10 +16,6 @@ use Rattle.orders.specs.Kept.{Sound}
 use Rattle.steps.specs.Uniform.{lines_at}
 use Rattle.uniform.specs.declared.margin.Margin.{Margin}
 use Rattle.uniform.specs.declared.margin.Margins.{Margins}
-
--- V of figures
-abbrev pub figures_volume : Figures → ℕ
-figures_volume f = volume highest_tick (demand_of f) (supply_of f)
 
 -- what a side has open at p, of demand D and supply S
 abbrev pub open_at : Bool → (ℕ → ℕ) → (ℕ → ℕ) → ℕ → ℕ

@@ -1,8 +1,8 @@
 //! The margin of a side: the limit at which the volume runs out, and what each order gets by it.
 ghost use Rattle.std.specs.Prelude.{◌≡◌, ◌-◌, ◌≤◌, length};
-ghost use Rattle.ticks.specs.Seen.{demand_of, supply_of};
+ghost use Rattle.ticks.specs.Seen.{demand_of, supply_of, greatest_volume};
 ghost use Rattle.orders.specs.Orders.{most_orders};
-ghost use Rattle.uniform.specs.Margins.{figures_volume, margin_tick, ahead_of, marginal, marginal_group, granted, passed, grant_of, turned, MadeBy};
+ghost use Rattle.uniform.specs.Margins.{margin_tick, ahead_of, marginal, marginal_group, granted, passed, grant_of, turned, MadeBy};
 
 use crate::side::RoundSide;
 use arrayvec::{ArrayVec, IntoIter};
@@ -25,7 +25,7 @@ impl Margin {
     fn new<S: RoundSide, R: SharingRule>(orders: &[Order], figures: &Figures, sharing: &R) -> Margin
         requires { length orders.now ≤ most_orders }
         ensures limit { result.limit ≡ margin_tick S.Side.buys (demand_of figures.now) (supply_of figures.now) }
-        ensures shares { result.shares ≡ R.SharingRule.meaning (figures_volume figures.now - ahead_of S.Side.buys (demand_of figures.now) (supply_of figures.now) result.limit) (marginal_group S.Side.buys result.limit orders.now) }
+        ensures shares { result.shares ≡ R.SharingRule.meaning (greatest_volume figures.now - ahead_of S.Side.buys (demand_of figures.now) (supply_of figures.now) result.limit) (marginal_group S.Side.buys result.limit orders.now) }
     {
         let limit = S::margin(figures);
         let amount = figures.volume().saturating_sub(S::ahead(figures, limit));
@@ -75,6 +75,7 @@ fn gather<S: RoundSide>(orders: &[Order], limit: u16) -> ArrayVec<u32, MOST_ORDE
     group
 }
 
+// Filling goes over quotes, as asked for; the tie-break of this one is not read.
 /// The quote of an order of a side.
 fn quote<S: Side>(order: &Order) -> LimitQuote<S, Continuous>
     ensures limit { result.order.limit ≡ order.now.limit }

@@ -1,8 +1,8 @@
 //! A side of a round: which orders it has, and what it reads of demand and supply.
 ghost use Rattle.std.specs.Prelude.{◌≡◌, nat_le};
-ghost use Rattle.ticks.specs.Seen.{demand_of, supply_of};
+ghost use Rattle.ticks.specs.Seen.{demand_of, supply_of, greatest_volume};
 ghost use Rattle.orders.specs.Orders.{buys};
-ghost use Rattle.uniform.specs.Margins.{figures_volume, open_at, margin_tick, ahead_of};
+ghost use Rattle.uniform.specs.Margins.{open_at, margin_tick, ahead_of};
 
 use orders::order::Side as OrderSide;
 use ranking::orders::{Buying, Selling, Side};
@@ -34,7 +34,7 @@ struct OpenEnough<'a> {
 }
 
 impl<'a> TickTest for OpenEnough<'a> {
-    ghost passing = { λ t p. nat_le (figures_volume t.figures.now) (open_at (buys t.side) (demand_of t.figures.now) (supply_of t.figures.now) p) };
+    ghost passing = { λ t p. nat_le (greatest_volume t.figures.now) (open_at (buys t.side) (demand_of t.figures.now) (supply_of t.figures.now) p) };
 
     fn passes(&self, tick: Tick) -> bool {
         let open = match self.side {
