@@ -1,11 +1,11 @@
 //! Opens a book and hands out its records.
-ghost use Rattle.std.specs.Prelude.{◌≡◌, ℕ, ◌+◌, ◌-◌, ◌*◌, ◌/◌, ◌^◌, ◌<◌, ◌≤◌, [], ◌∷◌, length, take, IfOk, Ok, Err, MatchResult, IfSome};
+ghost use Rattle.std.specs.Prelude.{◌≡◌, ◌<◌, ◌≤◌, length, take, IfOk, Ok, Err, MatchResult, IfSome};
 ghost use Rattle.std.specs.Result.{result_err};
 ghost use Rattle.std.specs.Iterator.{YieldsFirstBy, at_most};
 ghost use Rattle.std.proofs.Props.{props};
 ghost use Rattle.packing.specs.Fields.{word};
 ghost use Rattle.book.specs.Format.{header_of, placement_of, withdrawal_of, entry_of};
-ghost use Rattle.book.specs.Questions.{value_questions, word_questions, header_questions, record_questions, first_no, first_fault};
+ghost use Rattle.book.specs.Questions.{value_questions, word_questions, record_questions, first_no, first_fault};
 ghost use Rattle.book.specs.Reading.{words, entries, read_book, value_of, bytes_of, Lawful, NoRounds};
 ghost use Rattle.book.specs.Codes.{way_code, sharing_code};
 ghost use Rattle.book.specs.Laws.{Faulty, Faultless};

@@ -8,6 +8,7 @@ ghost use Rattle.packing.specs.Laws.{FieldsGiveTheWord, ValuesComeBack, WordsFit
 /// The bits of a word.
 pub const BITS: u32 = 48;
 
+// No `From`, here and below: neither type is this crate's.
 /// The six bytes as a word, the first byte the highest.
 pub fn word_of(six: &[u8; 6]) -> u64
     ensures value { result ≡ word six.now }

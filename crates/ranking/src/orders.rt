@@ -70,6 +70,7 @@ impl<S: Side, T: TieBreak> Ranked for LimitQuote<S, T> {
     ghost ranks = { let law = (by_limit_law T.TieBreak.ahead T.TieBreak.ranks S.Side.buys).ranks in
         record { one = λ x y. law.one x.order y.order; chain = λ x y z. law.chain x.order y.order z.order } };
 
+    // By hand: side and tie-break are parameters, and no derive knows them.
     fn is_ahead(&self, other: &LimitQuote<S, T>) -> bool {
         S::is_better(self.order.limit, other.order.limit)
             || (self.order.limit == other.order.limit && T::is_ahead(&self.order, &other.order))

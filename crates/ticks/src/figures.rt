@@ -7,6 +7,7 @@ ghost use Rattle.ticks.specs.Ticks.{highest_tick, Falls, Rises, IsVolume, summed
 
 use crate::tick::{TICKS, Tick};
 
+// Two arrays, and none of pairs: the meaning of a price rule reads two lists.
 /// Demand and supply at all ticks, always in order: demand falls and supply rises.
 #[derive(Drop)]
 pub struct Figures {
