@@ -18,7 +18,7 @@ pub enum Way {
 }
 
 impl Way {
-    // A name, here and below, and no `Display`: the listing has a word for a code that has no name.
+    // A `name`, here and below, and no `Display`: the listing puts a word of its own where a code has no name.
     /// Its name in plain words.
     pub fn name(self) -> &'static str
         ensures { result.now ≡ name_of_way self }
@@ -88,7 +88,7 @@ impl TryFrom<u8> for Sharing {
     }
 }
 
-// The format's own side and kind: `book` knows no session, and `orders` no book.
+// The format's own side and kind, besides those of `orders`: neither crate rests on the other.
 /// The side of an order.
 #[derive(Clone, Copy, PartialEq, Eq, Debug)]
 pub enum Side {

@@ -52,7 +52,7 @@ fn ask_header(word: u64, len: usize) -> Result<(), Question>
 pub(crate) fn ask_record(way: u8, word: u64) -> Result<(), Question>
     ensures { result_err result ≡ first_no (record_questions way word) }
 {
-    // Kinds by number, in one match with a guard and ranges, as asked for.
+    // One match with a guard and ranges: the kind tells which bits are spare, and 2 is a kind for ways below 5 only.
     let spare = match KIND.cut(word) {
         0 => match ORDER_KIND.cut(word) {
             0..=2 => PLACE_SPARE.cut(word),
@@ -70,9 +70,10 @@ fn ask_records(way: u8, s: &[u8]) -> Result<(), Fault>
     ensures { result_err result ≡ first_fault (record_questions way) 1 (words s.now) }
 {
     let mut rest = s;
-    // Counted by hand: the slice pattern that is asked for takes the next six bytes, and leaves no iterator to enumerate.
+    // Counted by hand: the slice pattern takes the next six bytes, and leaves no iterator to enumerate.
     let mut record: usize = 1;
     while let [a, b, c, d, e, f, more @ ..] = rest {
+        // By `if let`: the fault has the record's number, which `From` does not know.
         if let Err(question) = ask_record(way, word_of(&[*a, *b, *c, *d, *e, *f])) {
             return Err(Fault { question, record });
         }
@@ -108,7 +109,7 @@ impl<'a> From<Record<'a>> for Entry {
     }
 }
 
-// No `From` for these two, nor for a header's word: bytes by themselves do not say what they hold, and the names do.
+// No `From` for these two, nor for `header_of`: the same six bytes can be read as any of them, and the name says as which.
 
 /// The order that the six bytes of a place hold.
 pub fn placement_of(six: &[u8; 6]) -> Placement
@@ -153,6 +154,7 @@ pub fn open<'a>(s: &'a [u8]) -> Result<Book<'a>, Fault>
     ensures few { IfOk result (λ b. length (entries b.rest.now) < 4096) }
 {
     let [a, b, c, d, e, f, rest @ ..] = s else {
+        // The pattern is the question.
         return Err(Fault::from(Question::SixBytes));
     };
     let word = word_of(&[*a, *b, *c, *d, *e, *f]);

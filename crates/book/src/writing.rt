@@ -95,6 +95,7 @@ fn ask_each<F: Fn(Entry) -> Result<(), Question>>(entries: &[Entry], ask: F) -> 
     ensures { result_err result ≡ first_fault asks 1 entries.now }
 {
     for (i, entry) in entries.iter().enumerate() {
+        // By `if let`: the fault has the record's number, which `From` does not know.
         if let Err(question) = ask(*entry) {
             return Err(Fault {
                 question,

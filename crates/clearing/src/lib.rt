@@ -7,7 +7,7 @@ ghost use Rattle.clearing.specs.Sheet.{fault_line, fault_sheet};
 use book::{Fault, open};
 use std::alloc::{AllocError, Global};
 
-// `sheets` writes the same row behind bytes, and is to take this crate's place.
+// `sheets` writes the same row behind a vector of bytes, and will take this crate's place.
 /// Writes the line of a fault behind a text.
 #[tactic(auto, unfolding(crate::specs::Sheet::fault_line))]
 fn append_fault(out: &mut String, fault: Fault) -> Result<(), AllocError>

@@ -28,6 +28,7 @@ pub fn uniform_rounds_are_fair<P: PriceRule, S: SharingRule>()
     ensures { (reference : ℕ) → FairRounds (Uniform P.PriceRule.meaning S.SharingRule.meaning reference) }
 {}
 
+// `pairs_of` takes its rules one by one, here and below, since a clause can name a bound's members only so.
 /// Whatever rules rank and price pairs, paired rounds are fair.
 pub fn paired_rounds_are_fair<R: Ranking, P: PairPrice>()
     ensures { FairRounds (Paired (pairs_of (order_rank R.Buy.Ranked.ahead R.Buy.OrderQuote.made) (order_rank R.Sell.Ranked.ahead R.Sell.OrderQuote.made) P.PairPrice.meaning)) }

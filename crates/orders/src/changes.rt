@@ -77,8 +77,8 @@ impl Tables {
         }
     }
 
-    // A slice, and no type of its own that keeps these facts: few and private functions ask for them, and each would take the
-    // wrapper off again.
+    // A slice, and no type of its own that keeps these facts: only a few functions, none of them public, ask for them, and each
+    // would have to unwrap it.
     /// Every order ever numbered, by number.
     pub fn placed(&self) -> &[Order]
         ensures is { result.now ≡ (session_of self.now).orders }

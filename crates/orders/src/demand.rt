@@ -41,7 +41,7 @@ impl Tables {
     pub fn willing(&self, side: Side, tick: Tick) -> u32
         ensures { result ≡ willing (buys side) (bids_of (session_of self.now).orders) tick.value }
     {
-        // A loop, and no `sum`: its invariant bounds what is summed.
+        // A loop, and no `sum`: the loop's invariant shows that the sum does not overflow.
         let mut sum = 0;
         for order in self.placed() {
             sum += order.willing(side, tick);

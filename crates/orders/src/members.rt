@@ -10,7 +10,7 @@ impl Tables {
     pub fn member_count(&self) -> u32
         ensures { result ≡ distinct_members (session_of self.now).lines }
     {
-        // A loop, and no `fold`: that a member is below 64, as the shift wants, is known of each element here.
+        // A loop, and no `fold`: here each line's member is known to be below 64, as the shift needs.
         let mut members = 0u64;
         for line in self.lines() {
             members |= 1u64 << line.member;

@@ -95,6 +95,7 @@ pub struct Account {
 }
 
 impl Side {
+    // A match: each side names the other.
     /// The other side.
     pub fn opposite(self) -> Side
         ensures { buys result ≡ not (buys self) }
@@ -107,7 +108,7 @@ impl Side {
 }
 
 impl Order {
-    // A constant, as an array's repeat asks for, and no `Default`: an order has no value that would serve where none is given.
+    // A constant, which an array's repeat needs, and no `Default`: an order has no value that would serve where none is given.
     /// What stands in a place of a table that holds no order.
     pub const NONE: Order = Order {
         number: 0,

@@ -14,7 +14,7 @@ pub struct Period {
 }
 
 impl Period {
-    // No `TryFrom`: its error would say no more than none does.
+    // No `TryFrom`: its error would say no more than `None`.
     /// The period of so many quarter-hours, none outside 1 to 2,976.
     pub fn new(quarters: u16) -> Option<Period>
         ensures { MatchOption result (lawful_period quarters ≡ false) (λ p. (lawful_period quarters ≡ true) × (p.quarters ≡ quarters)) }

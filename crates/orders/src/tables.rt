@@ -4,8 +4,8 @@ ghost use Rattle.orders.specs.Kept.{OrdersKept, LinesKept, AccountsKept};
 use crate::order::{Account, Line, MEMBERS, MOST_LINES, MOST_ORDERS, Order};
 use crate::period::Period;
 
-// Plain arrays by repeat expressions, as asked for, with the length that is in use beside them. Contracts see the tables by
-// `session_of`, and not by a `Model`, since a session is more than its tables.
+// Plain arrays of fixed length, with the length that is in use beside them. Contracts see the tables by `session_of`, and not by a
+// `Model`, since a session is more than its tables.
 /// Every order of a session by number, the lines of the latest call, the accounts by member, and the period.
 #[derive(Drop)]
 pub struct Tables {

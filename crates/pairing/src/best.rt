@@ -29,7 +29,7 @@ fn stands(side: Side, order: &Order) -> bool
     order.side == side && order.standing() > 0
 }
 
-// A function: a `From` would stand in `orders`, away from the definition that it computes.
+// A function: a `From` could stand only in `orders` or `ranking`, which do not know the definition that it computes.
 /// What a ranking reads of the order.
 fn fields_of(order: &Order) -> OrderFields
     ensures { result ≡ fields_of order.now }
@@ -62,7 +62,7 @@ impl<'a, Q: OrderQuote> Places<Q> for Standing<'a, Q> {
 
     fn at(&self, place: usize) -> Option<Q> {
         let order = self.orders.get(place)?;
-        // After `filter` and `map` the check leaves an answer open.
+        // By `if`: after `filter` and `map` the check leaves an answer open.
         if stands(self.side, order) {
             Some(Q::make(&fields_of(order)))
         } else {

@@ -29,7 +29,7 @@ struct Meeting {
     price: Tick,
 }
 
-// `pairs_of` spells its rules out: a clause names the members of a bound one by one.
+// `pairs_of` takes its rules one by one, since a clause can name a bound's members only so.
 /// The best buy and the best sell, where their limits meet.
 fn best_pair<R: Ranking, P: PairPrice>(orders: &[Order], price: &P) -> Option<Meeting>
     requires { Sound orders.now (length orders.now) }

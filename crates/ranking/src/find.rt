@@ -26,7 +26,7 @@ pub fn find_best<T: Ranked + Drop, S: Places<T>>(table: &S) -> Option<usize>
     ensures best { Distinct T.Ranked.mark (S.Places.size table.now) (S.Places.thing table.now) → Found T.Ranked.ahead (S.Places.size table.now) (S.Places.thing table.now) result }
 {
     let mut best: Option<(usize, T)> = None;
-    // The loop goes by place, since a table of any kind answers for a place, and the place is what is asked for.
+    // The loop goes by place: a table of any kind answers for a place, and the place is the answer.
     for place in 0..table.size() {
         if let Some(thing) = table.at(place)
             && best

@@ -80,9 +80,9 @@ pub fn replay_continuous<R: Ranking, P: PairPrice>(
     ensures rules { result.rules.price ≡ price }
     ensures holds { Holds (⟦<AtOnce as TakesOrders<PairedRules<R, P>>>⟧.way result.rules) figures.period.quarters (run (⟦<AtOnce as TakesOrders<PairedRules<R, P>>>⟧.way result.rules) figures.period.quarters (map call_of deals.now)) }
 {
-    // A loop of its own beside that of `replay`, since the calls differ: a continuous session has no rounds.
     continuous_sessions_hold::<R, P>();
     let mut session = Continuous::open(figures, price);
+    // A loop of its own beside that of `replay`, since the calls differ: a continuous session has no rounds.
     for deal in deals {
         make_deal(&mut session, *deal);
     }

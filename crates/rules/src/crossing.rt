@@ -24,7 +24,7 @@ impl<'a> TickTest for InRange<'a> {
     }
 }
 
-// A pair, as asked for, though the figures keep V.
+// A pair: whoever asks for the crossing is told V with it, though the figures keep V too.
 /// V and the crossing price: half the sum of the ends of the crossing range, which is never empty.
 pub fn crossing(figures: &Figures) -> (u64, Tick)
     ensures volume { result.0 ≡ greatest_volume figures.now }

@@ -9,7 +9,7 @@ use ticks::tick::Tick;
 pub trait PairPrice {
     ghost meaning: { PairMeaning };
 
-    // Three plain parameters, as the meaning has them; rules of others are written so.
+    // Three plain parameters, as the meaning has them; contracts write their own rules in this form.
     /// The price: the rule's meaning of the limits of the buy and the sell, and of which is the earlier.
     fn price(&self, buy: Tick, sell: Tick, buy_is_earlier: bool) -> Tick
         ensures { result.value ≡ meaning buy.value sell.value buy_is_earlier };

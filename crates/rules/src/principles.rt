@@ -80,7 +80,7 @@ fn least_unbalance(candidate: Candidate) -> u64
     let all_demand = figures.demand_at(Tick { value: 0 });
     let all_supply = figures.supply_at(Tick { value: HIGHEST });
     let mut least = all_demand.max(all_supply);
-    // A loop: what the least of no candidate is stands before it.
+    // A loop over all ticks, since it starts from a value for the case that there is no candidate.
     for value in 0..=HIGHEST {
         let tick = Tick { value };
         if candidate.passes(tick) {

@@ -95,7 +95,7 @@ impl<A: Auction> Market<A, Open> {
 }
 
 impl<A: Auction> Market<A, Closed> {
-    // Two calls of two lines: one over the side would say no less.
+    // Two calls of two lines each: one with the side as a parameter would be no shorter.
     /// Demand at a tick.
     pub fn demand_at(&self, tick: u16) -> Result<u32, Refusal>
         ensures { result ≡ demand_at tick (session_of self.now.tables) }

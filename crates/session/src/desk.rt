@@ -41,7 +41,7 @@ pub(crate) fn enter(tables: &mut Tables, ask: Ask, continuous: bool) -> Result<u
     Refusal::Quantity.ask((LEAST_QUANTITY..=MOST_QUANTITY).contains(&ask.quantity))?;
     Refusal::Kind.ask(ask.kind == Kind::Normal || continuous)?;
     Refusal::OtherSide.ask(!is_opposed(tables.placed(), ask))?;
-    // What is out of its bounds is refused above; what can be wanting here is a number.
+    // All bounds are asked about above, so `append` answers none only where no number is left.
     let number = tables.append(ask).ok_or(Refusal::Numbers)?;
     tables.clear_lines();
     Ok(number)

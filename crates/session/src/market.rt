@@ -30,7 +30,7 @@ pub(crate) trait TakingState {}
 pub trait TakesOrders<W>: TakingState {
     ghost way: { W → Way };
 
-    // A flag: the one answer in which the questions about a place differ.
+    // A flag: of the questions about a place, only that about the order's kind differs between sessions.
     /// Whether orders trade as they are placed.
     fn is_continuous() -> bool
         ensures { (rules : W) → result ≡ is_continuous (way rules) };

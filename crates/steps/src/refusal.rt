@@ -33,7 +33,7 @@ pub enum Refusal {
     NoSuchLine = 13,
 }
 
-// As `Question` of `book`: the two crates share none below them.
+// As `Question` of `book`: the two crates rest on no crate in common.
 impl Refusal {
     /// Goes on where the question is answered yes, and refuses where it is answered no.
     pub fn ask(self, yes: bool) -> Result<(), Refusal>

@@ -88,8 +88,8 @@ fn greatest_volume(demand: &[u64; TICKS], supply: &[u64; TICKS]) -> u64
 }
 
 /// Demand at all ticks: the sums from the highest limit down.
-// Two loops for two directions: one function for both would turn the arrays round and back, which is no plainer; nor is an
-// enumeration turned round.
+// Two loops for two directions: one function for both would turn the arrays round and back, which is no plainer; nor would an
+// enumeration turned round be.
 fn falling(wanted: &[u32; TICKS]) -> [u64; TICKS]
     ensures { result ≡ figures highest_tick (summed true wanted.now) }
 {

@@ -75,7 +75,7 @@ fn gather<S: RoundSide>(orders: &[Order], limit: u16) -> ArrayVec<u32, MOST_ORDE
     group
 }
 
-// Filling goes over quotes, as asked for; the tie-break of this one is not read.
+// Filling reads orders as quotes; the tie-break of this one is not read. A function, since both types are other crates'.
 /// The quote of an order of a side.
 fn quote<S: Side>(order: &Order) -> LimitQuote<S, Continuous>
     ensures limit { result.order.limit ≡ order.now.limit }
