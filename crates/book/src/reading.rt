@@ -17,6 +17,7 @@ use crate::layout::*;
 use crate::values::{Entry, Header, Placement, Record, Withdrawal};
 use packing::word_of;
 
+// By ranges of the codes: a sharing has to suit its way, which no `TryFrom` of one code could tell.
 /// Asks whether the values of a header may stand together.
 pub(crate) fn ask_values(header: Header) -> Result<(), Question>
     ensures { result_err result ≡ first_no (value_questions header.way header.sharing header.reference) }

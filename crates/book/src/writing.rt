@@ -59,6 +59,7 @@ fn placement_word(p: Placement) -> u64
         + QUANTITY.embed(p.quantity as u64)
 }
 
+// The kinds' numbers, here and below, are those that `ask_record` reads: 0 a place, 1 a withdrawal, 2 a round.
 fn withdrawal_word(w: Withdrawal) -> u64
     ensures { result ≡ entry_word (Entry.Withdraw w) }
 {

@@ -36,6 +36,7 @@ impl Account {
 }
 
 impl Ask {
+    // The questions about a place ask the same, each with its refusal: the tables take nobody's word for it.
     /// Whether what is asked for is within its bounds: member, limit and quantity.
     pub fn is_sound(self) -> bool
         ensures { result ≡ sound_ask self }

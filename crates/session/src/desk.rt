@@ -1,4 +1,4 @@
-//! The calls on the plain tables, for every kind of session.
+//! The calls on the plain tables, for every kind of session: apart from `Market`, so that they are proved without its rules and states.
 ghost use Rattle.std.specs.Prelude.{◌≡◌, ℕ, ◌≤◌, Result as Answers};
 ghost use Rattle.std.specs.List.{list_any};
 ghost use Rattle.steps.specs.declared.refusal.Refusal.{Refusal as Why};

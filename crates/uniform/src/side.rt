@@ -27,6 +27,7 @@ pub(crate) trait RoundSide: Side {
 
 /// As much as the volume is open on a side. No closure stands here: a public function would have to require that it
 /// may be called.
+// One test for both sides, by a value: two structs would differ in one word.
 #[derive(Drop)]
 struct OpenEnough<'a> {
     figures: &'a Figures,
