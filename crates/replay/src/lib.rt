@@ -40,6 +40,7 @@ pub fn replay<A: Auction>(figures: Opening, auction: A, calls: &[Call]) -> Takin
     ensures holds { Holds (A.Auction.way auction) figures.period.quarters (run (A.Auction.way auction) figures.period.quarters calls.now) }
 {
     every_history_holds();
+    auction.vouch();
     let mut session = Taking::open(figures, auction);
     for call in calls {
         session = make(session, *call);

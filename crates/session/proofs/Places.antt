@@ -2,20 +2,24 @@
 use Rattle.std.proofs.Common.{◌≡◌, ℕ, suc, ◌≤◌, Bool, true, false, cond, not, ◌&&◌, ◌||◌, ltb, leb, List, [], ◌∷◌, ◌++◌, length, Some, None, Ok, Err, Option, Result, sym, refl, ap, ◌∙◌, subst, arith}
 use Rattle.std.specs.List.{list_any}
 use Rattle.std.proofs.lemmas.Bool.{le-leb, leb-true}
+use Rattle.std.proofs.lemmas.List.Sums.{sum_by_push}
+use Rattle.curves.specs.Orders.{on, keeps, willing}
 use Rattle.orders.specs.declared.order.Ask.{Ask}
 use Rattle.orders.specs.Settlement.{Session, settled, cleared, with_orders}
 use Rattle.ticks.specs.Ticks.{highest_tick}
 use Rattle.orders.specs.declared.order.Order.{Order}
-use Rattle.orders.specs.Orders.{most_orders, least_quantity, most_quantity}
+use Rattle.orders.specs.Orders.{most_orders, least_quantity, most_quantity, buys, bids_of}
+use Rattle.orders.specs.declared.order.Kind.TheVariants.{Normal, FillAndKill, FillOrKill}
 use Rattle.orders.specs.Kept.{most_lines, Sound}
 use Rattle.pairing.proofs.Loops.{pair_lines_fit}
-use Rattle.orders.specs.Changes.{accepted}
+use Rattle.orders.specs.Changes.{accepted, new_order}
 use Rattle.steps.specs.declared.call.Acceptance.{Acceptance}
 use Rattle.steps.specs.declared.refusal.Refusal.{Refusal}
 use Rattle.steps.specs.declared.refusal.Refusal.TheVariants.{Member, Limit, Quantity, OtherSide, Numbers, Lines}
 use Rattle.steps.specs.declared.refusal.Refusal.TheVariants.{Kind as KindOf}
 use Rattle.steps.specs.Refusals.{Asked, first_no}
 use Rattle.steps.specs.Ways.{Way, Uniform, Paired, Continuous, is_continuous, place_lines}
+use Rattle.history.proofs.Wholes.{covers, cover_willing}
 use Rattle.session.specs.Entries.{entered}
 use Rattle.steps.specs.Calls.{made, is_member, is_normal, opposes, may_trade, with_ask, lines_of_place, ask_questions, closed, acceptance, placed, place}
 
@@ -61,6 +65,27 @@ place_accepted w a s e few =
     let room = (Lines, leb (length (lines_of_place w a s.orders)) most_lines) ∷ [] in
     let yes-room : first_no room ≡ None = ap (λ b. cond b None (Some Lines)) (le-leb (length (lines_of_place w a s.orders)) most_lines few) in
     ap (λ o. made o (placed w a s) s) (first_no_none (ask_questions (is_continuous w) a s) room e ∙ yes-room)
+
+-- the order of an ask covers nothing of its own ask, so that it may trade where it might without it
+own_covers_none : (a : Ask) (n : ℕ) → covers (not (buys a.side)) a.limit (new_order a n) ≡ 0
+own_covers_none a n =
+    elim (buys a.side) as (λ b. cond (on (not b) (record { buys = b; limit = a.limit; left = a.quantity }) && keeps (not b) a.limit a.limit) a.quantity 0 ≡ 0)
+    [ true ↦ refl | false ↦ refl ]
+
+pub same_trades : (a : Ask) (os : List Order) → may_trade a.kind a (with_ask a os) ≡ may_trade a.kind a os
+same_trades a os =
+    let side = not (buys a.side) in
+    let new = new_order a (suc (length os)) in
+    let same : willing side (bids_of (with_ask a os)) a.limit ≡ willing side (bids_of os) a.limit =
+    omega (
+      arith,
+      cover_willing side a.limit os,
+      cover_willing side a.limit (with_ask a os),
+      sum_by_push (covers side a.limit) os new,
+      own_covers_none a (suc (length os)),
+    ) in
+    elim a.kind as (λ k. may_trade k a (with_ask a os) ≡ may_trade k a os)
+    [ Normal ↦ refl | FillAndKill ↦ refl | FillOrKill ↦ ap (leb a.quantity) same ]
 
 -- an ask that is numbered, and then trades if it may
 pub trades_where_it_may : (w : Way) (a : Ask) (s t u : Session) (b : Bool) → b ≡ may_trade a.kind a s.orders → t ≡ accepted a (cleared s) →

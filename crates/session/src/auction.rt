@@ -1,9 +1,8 @@
 //! How the rounds of a batch session trade.
-ghost use Rattle.std.specs.Prelude.{◌≡◌, false, refl};
+ghost use Rattle.std.specs.Prelude.{◌≡◌, false};
 ghost use Rattle.orders.specs.Settlement.{settled};
 ghost use Rattle.orders.specs.Held.{session_of};
 ghost use Rattle.pairing.specs.Quotes.{pairs_of};
-ghost use Rattle.std.proofs.Common.{rules};
 ghost use Rattle.steps.specs.Ways.{Paired as PairedWay, Uniform as UniformWay};
 ghost use Rattle.steps.specs.Ways.{Way, Laws, is_continuous, round_lines, round_volume, round_price};
 
@@ -21,16 +20,18 @@ use uniform::clear;
 pub trait Auction {
     ghost way: { Self → Way };
 
+    // A clause, and no law: a law would ask it of every number, and not only of those that the fields of the rules can hold.
+    /// Does nothing, and promises that the rules keep their laws and trade in rounds only.
+    fn vouch(&self)
+        ensures laws { Laws (way self.now) }
+        ensures batch { is_continuous (way self.now) ≡ false };
+
     // A pair; price 0 is what the sheet shows where nothing trades, and in a paired round.
     /// Settles the lines of a round, and answers its volume and its price.
     fn settle(&self, tables: &mut Tables) -> (u64, u16)
         ensures volume { result.0 ≡ round_volume (way self.now) (session_of tables.old).orders }
         ensures price { result.1 ≡ round_price (way self.now) (session_of tables.old).orders }
         ensures after { session_of tables.new ≡ settled (round_lines (way self.now) (session_of tables.old).orders) (session_of tables.old) };
-
-    ghost laws: { (auction : Self) → Laws (way auction) };
-
-    ghost batch: { (auction : Self) → is_continuous (way auction) ≡ false };
 }
 
 /// The rules of a paired or a continuous session: its pair price, and the ranking `R`.
@@ -55,9 +56,7 @@ impl<R: Ranking, P: PairPrice> PairedRules<R, P> {
 impl<R: Ranking, P: PairPrice> Auction for PairedRules<R, P> {
     ghost way = { λ _. PairedWay (pairs_of R.Buy.Ranked.ahead R.Buy.OrderQuote.made R.Sell.Ranked.ahead R.Sell.OrderQuote.made P.PairPrice.meaning) };
 
-    ghost laws = { Prim.search rules };
-
-    ghost batch = { λ _. refl };
+    fn vouch(&self) {}
 
     fn settle(&self, tables: &mut Tables) -> (u64, u16) {
         (pair::<R, P>(tables, &self.price), 0)
@@ -88,9 +87,7 @@ impl<P: PriceRule, S: SharingRule> UniformRules<P, S> {
 impl<P: PriceRule, S: SharingRule> Auction for UniformRules<P, S> {
     ghost way = { λ u. UniformWay P.PriceRule.meaning S.SharingRule.meaning u.reference.value };
 
-    ghost laws = { λ _. (P.PriceRule.clears, S.SharingRule.shares) };
-
-    ghost batch = { λ _. refl };
+    fn vouch(&self) {}
 
     fn settle(&self, tables: &mut Tables) -> (u64, u16) {
         clear(tables, &self.price, &self.sharing, self.reference)

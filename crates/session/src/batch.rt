@@ -1,6 +1,6 @@
 //! Batch sessions: taking orders, shut, awarded. A state allows only its own calls, so each is a type of its own, which
 //! the call that leaves it consumes.
-ghost use Rattle.std.specs.Prelude.{◌≡◌};
+ghost use Rattle.std.specs.Prelude.{◌≡◌, false};
 ghost use Rattle.orders.specs.Members.{distinct_members};
 ghost use Rattle.orders.specs.Settlement.{Session, opening};
 ghost use Rattle.orders.specs.Held.{session_of};
@@ -35,13 +35,15 @@ pub struct Award {
 impl<A: Auction> TakesOrders<A> for Open {
     ghost way = { λ auction. A.Auction.way auction };
 
-    ghost laws = { λ auction. A.Auction.laws auction };
+    ghost at_once = { false };
 
-    fn is_continuous() -> bool {
+    fn is_continuous(rules: &A) -> bool {
+        rules.vouch();
         false
     }
 
     fn trade(rules: &A, tables: &mut Tables) {
+        rules.vouch();
         tables.clear_lines();
     }
 }
@@ -76,6 +78,7 @@ impl<A: Auction> Market<A, Open> {
         ensures fair { Fair (A.Auction.way self.old.rules) (session_of self.old.tables) (result, session_of self.new.tables) }
         ensures rules { self.new.rules ≡ self.old.rules }
     {
+        self.rules.vouch();
         let tables = &mut self.tables;
         let (volume, price) = self.rules.settle(tables);
         Outcome {
@@ -119,6 +122,7 @@ impl<A: Auction> Market<A, Closed> {
         ensures rules { result.rules ≡ self.rules }
     {
         let mut session = self;
+        session.rules.vouch();
         let (volume, price) = session.rules.settle(&mut session.tables);
         session.into_state(Award { volume, price })
     }

@@ -1,9 +1,8 @@
 //! Continuous sessions: one state, in which an order trades as it is placed.
-ghost use Rattle.std.specs.Prelude.{◌≡◌};
+ghost use Rattle.std.specs.Prelude.{◌≡◌, true};
 ghost use Rattle.orders.specs.Settlement.{opening};
 ghost use Rattle.orders.specs.Held.{session_of};
 ghost use Rattle.pairing.specs.Quotes.{pairs_of};
-ghost use Rattle.std.proofs.Common.{rules};
 ghost use Rattle.steps.specs.Ways.{Continuous as ContinuousWay};
 
 use crate::auction::PairedRules;
@@ -21,9 +20,9 @@ pub struct AtOnce;
 impl<R: Ranking, P: PairPrice> TakesOrders<PairedRules<R, P>> for AtOnce {
     ghost way = { λ _. ContinuousWay (pairs_of R.Buy.Ranked.ahead R.Buy.OrderQuote.made R.Sell.Ranked.ahead R.Sell.OrderQuote.made P.PairPrice.meaning) };
 
-    ghost laws = { Prim.search rules };
+    ghost at_once = { true };
 
-    fn is_continuous() -> bool {
+    fn is_continuous(_rules: &PairedRules<R, P>) -> bool {
         true
     }
 

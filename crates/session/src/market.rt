@@ -1,5 +1,5 @@
 //! A session as it runs, whatever its rules: its tables, its rules, and the state that says which calls it takes.
-ghost use Rattle.std.specs.Prelude.{◌≡◌, ℕ, false, [], length, Result as Answers, OnOk};
+ghost use Rattle.std.specs.Prelude.{◌≡◌, ℕ, Bool, false, [], length, Result as Answers, OnOk};
 ghost use Rattle.orders.specs.Kept.{SoundLines};
 ghost use Rattle.orders.specs.Settlement.{Session, opening, settled};
 ghost use Rattle.orders.specs.Held.{session_of};
@@ -30,16 +30,18 @@ pub(crate) trait TakingState {}
 pub trait TakesOrders<W>: TakingState {
     ghost way: { W → Way };
 
+    ghost at_once: { Bool };
+
     // A flag: of the questions about a place, only that about the order's kind differs between sessions.
-    /// Whether orders trade as they are placed.
-    fn is_continuous() -> bool
-        ensures { (rules : W) → result ≡ is_continuous (way rules) };
+    /// Whether orders trade as they are placed, which the state alone says. The rules keep their laws.
+    fn is_continuous(rules: &W) -> bool
+        ensures is { result ≡ is_continuous (way rules.now) }
+        ensures state { result ≡ at_once }
+        ensures laws { Laws (way rules.now) };
 
     /// Settles the lines that the newest order makes.
     fn trade(rules: &W, tables: &mut Tables)
         ensures { session_of tables.new ≡ settled (place_lines (way rules.now) (session_of tables.old).orders) (session_of tables.old) };
-
-    ghost laws: { (rules : W) → Laws (way rules) };
 }
 
 /// A state in which the lines of the latest call can be seen.
@@ -98,12 +100,13 @@ impl<W, S: TakesOrders<W>> Market<W, S> {
     /// in a batch session nothing trades yet.
     pub fn place(&mut self, ask: Ask) -> Result<Acceptance, Refusal>
         ensures lines { OnOk result (is_continuous (S.TakesOrders.way self.old.rules) ≡ false → (session_of self.new.tables).lines ≡ []) }
+        ensures batch { OnOk result (S.TakesOrders.at_once ≡ false → (session_of self.new.tables).lines ≡ []) }
         ensures answer { ◌≡◌ {A = Answers Accepting Why × Session} (result, session_of self.new.tables) (place (S.TakesOrders.way self.old.rules) ask (session_of self.old.tables)) }
         ensures rules { self.new.rules ≡ self.old.rules }
     {
-        // Asked of the orders that stood before this one.
+        let number = desk::enter(&mut self.tables, ask, S::is_continuous(&self.rules))?;
+        // Asked behind the questions, so that a refused ask costs no look at the orders: its own stands on the other side.
         let trades = desk::may_trade(&self.tables, ask);
-        let number = desk::enter(&mut self.tables, ask, S::is_continuous())?;
         if trades {
             S::trade(&self.rules, &mut self.tables);
         }

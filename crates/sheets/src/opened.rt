@@ -68,6 +68,7 @@ impl<'a> Opened<'a> {
     fn in_rounds<A: Auction + Drop>(self, auction: A) -> Result<Vec<u8>, AllocError>
         ensures { IfOk result (λ text. text.items ≡ history_text (run (A.Auction.way auction) self.entry.book.header.period (calls_of (entries self.entry.book.rest.now)))) }
     {
+        auction.vouch();
         let session = Taking::open(self.figures, auction);
         self.made_to(session)
     }

@@ -17,4 +17,4 @@ returns-clause-fair g c =
     let s = session_of t in
     let awarded = c.into_state.result in
     let is : ◌≡◌ {A = Outcome × Session} (outcome_of {A = g.row.A.Denot} awarded, session_of awarded.tables) (round way s) = rw (c.into_state.ensures.tables, c.into_state.ensures.state) (search rules) in
-    subst (λ (r : Outcome × Session). Fair way s r) (sym is) (rounds_are_fair way (g.met.A.Auction.laws auction) s (kept_orders t.orders t.count t.ordered).0 t.owed.0)
+    subst (λ (r : Outcome × Session). Fair way s r) (sym is) (rounds_are_fair way c.vouch.ensures.laws s (kept_orders t.orders t.count t.ordered).0 t.owed.0)

@@ -16,4 +16,4 @@ returns-clause-fair g c =
     let s = session_of t in
     let answer : Outcome = record { volume = c.settle-volume.result.0; price = c.settle-volume.result.1; members = c.member_count.result } in
     let is : ◌≡◌ {A = Outcome × Session} (answer, session_of c.settle-volume.new.tables) (round way s) = search rules in
-    subst (λ (r : Outcome × Session). Fair way s r) (sym is) (rounds_are_fair way (g.met.A.Auction.laws auction) s (kept_orders t.orders t.count t.ordered).0 t.owed.0)
+    subst (λ (r : Outcome × Session). Fair way s r) (sym is) (rounds_are_fair way c.vouch.ensures.laws s (kept_orders t.orders t.count t.ordered).0 t.owed.0)
