@@ -1,7 +1,7 @@
 //! A uniform round: one price for all, the greatest volume, best limits first.
 #![tactic(auto)]
 
-ghost use Rattle.std.specs.Prelude.{◌≡◌};
+ghost use Rattle.std.specs.Prelude.{◌≡◌, true, nat_lt};
 ghost use Rattle.orders.specs.Held.{session_of};
 ghost use Rattle.orders.specs.Settlement.{settled};
 ghost use Rattle.steps.specs.Uniform.{uniform_volume, uniform_price, uniform_lines};
@@ -30,10 +30,26 @@ pub fn clear<P: PriceRule, S: SharingRule>(
     ensures answer { result ≡ (uniform_volume (session_of tables.old).orders, uniform_price P.PriceRule.meaning reference.value (session_of tables.old).orders) }
     ensures after { session_of tables.new ≡ settled (uniform_lines P.PriceRule.meaning S.SharingRule.meaning reference.value (session_of tables.old).orders) (session_of tables.old) }
 {
-    tables.clear_lines();
     if !is_crossed(tables.placed()) {
+        tables.clear_lines();
         return (0, 0);
     }
+    clear_crossed(tables, price, sharing, reference)
+}
+
+// Apart from `clear`, which would make room for the figures in rounds without a trade too.
+/// The same of orders that can trade.
+fn clear_crossed<P: PriceRule, S: SharingRule>(
+    tables: &mut Tables,
+    price: &P,
+    sharing: &S,
+    reference: Tick,
+) -> (u64, u16)
+    requires { nat_lt 0 (uniform_volume (session_of tables.old).orders) ≡ true }
+    ensures answer { result ≡ (uniform_volume (session_of tables.old).orders, uniform_price P.PriceRule.meaning reference.value (session_of tables.old).orders) }
+    ensures after { session_of tables.new ≡ settled (uniform_lines P.PriceRule.meaning S.SharingRule.meaning reference.value (session_of tables.old).orders) (session_of tables.old) }
+{
+    tables.clear_lines();
     let figures = tables.figures();
     let tick = price.price(&figures, reference);
     let margins = Margins::new(tables.placed(), &figures, sharing);
