@@ -3,6 +3,7 @@ ghost use Rattle.std.specs.Prelude.{◌≡◌, suc};
 ghost use Rattle.ticks.specs.Seen.{demand_of, supply_of, greatest_volume};
 ghost use Rattle.ticks.specs.Ticks.{highest_tick};
 ghost use Rattle.rules.specs.Tests.{candidates, kept_of, leaning};
+ghost use Rattle.curves.specs.Sums.{highest};
 ghost use Rattle.rules.specs.Prices.{unbalance, least_unbalance, choice, principles_price};
 
 use ticks::figures::Figures;
@@ -90,20 +91,32 @@ fn least_unbalance(candidate: Candidate) -> u64
     least
 }
 
+/// The highest tick that is kept, tick 0 where none is.
+#[tactic(auto, using(ticks::proofs::Ends::highest_never))]
+fn highest_kept(kept: Kept) -> Tick
+    ensures { result.value ≡ highest (suc highest_tick) (kept_of kept.entry.candidate.figures.now kept.entry.least) }
+{
+    highest_tick(&kept).unwrap_or(Tick { value: 0 })
+}
+
 /// The choice among the ticks that are kept, tick 0 where none is.
 fn chosen(kept: Kept, reference: Tick) -> Tick
     ensures { result.value ≡ choice (suc highest_tick) kept.entry.least (kept_of kept.entry.candidate.figures.now kept.entry.least) (demand_of kept.entry.candidate.figures.now) (supply_of kept.entry.candidate.figures.now) reference.value }
 {
-    let (Some(low), Some(high)) = (lowest_tick(&kept), highest_tick(&kept)) else {
-        return Tick { value: 0 };
-    };
     if kept.least == 0 {
+        let (Some(low), Some(high)) = (lowest_tick(&kept), highest_tick(&kept)) else {
+            return Tick { value: 0 };
+        };
         return reference.max(low).min(high);
     }
+    // An end of what is kept is looked for only where it is the answer.
     let Some(under) = lowest_tick(&Leaning { kept, over: false }) else {
-        return high;
+        return highest_kept(kept);
     };
     let Some(over) = highest_tick(&Leaning { kept, over: true }) else {
+        let Some(low) = lowest_tick(&kept) else {
+            return Tick { value: 0 };
+        };
         return low;
     };
     reference.max(over).min(under)

@@ -27,7 +27,11 @@ impl Figures {
         ensures demand { result.demand ≡ figures highest_tick (summed true wanted.now) }
         ensures supply { result.supply ≡ figures highest_tick (summed false offered.now) }
     {
-        let (demand, supply) = (falling(wanted), rising(offered));
+        // Written in place: as results, both would be moved once more.
+        let mut demand = [0; TICKS];
+        let mut supply = [0; TICKS];
+        falling(wanted, &mut demand);
+        rising(offered, &mut supply);
         let volume = greatest_volume(&demand, &supply);
         Figures {
             demand,
@@ -90,29 +94,25 @@ fn greatest_volume(demand: &[u64; TICKS], supply: &[u64; TICKS]) -> u64
 /// Demand at all ticks: the sums from the highest limit down.
 // Two loops for two directions: one function for both would turn the arrays round and back, which is no plainer; nor would an
 // enumeration turned round be.
-fn falling(wanted: &[u32; TICKS]) -> [u64; TICKS]
-    ensures { result ≡ figures highest_tick (summed true wanted.now) }
+fn falling(wanted: &[u32; TICKS], demand: &mut [u64; TICKS])
+    ensures { demand.new ≡ figures highest_tick (summed true wanted.now) }
 {
-    let mut demand = [0; TICKS];
     let mut sum = 0;
     for tick in (0..TICKS).rev() {
         sum += wanted[tick] as u64;
         demand[tick] = sum;
     }
-    demand
 }
 
 /// Supply at all ticks: the sums from the lowest limit up.
-fn rising(offered: &[u32; TICKS]) -> [u64; TICKS]
-    ensures { result ≡ figures highest_tick (summed false offered.now) }
+fn rising(offered: &[u32; TICKS], supply: &mut [u64; TICKS])
+    ensures { supply.new ≡ figures highest_tick (summed false offered.now) }
 {
-    let mut supply = [0; TICKS];
     let mut sum = 0;
     for (tick, offered) in offered.iter().enumerate() {
         sum += *offered as u64;
         supply[tick] = sum;
     }
-    supply
 }
 
 /// Figures that are made from what stands at each limit are demand and supply of the orders.

@@ -18,11 +18,11 @@ returns-in_default c =
 
 pub returns-in_default-lowest_tick : goal.returns-in_default-lowest_tick
 returns-in_default-lowest_tick c =
-    c.in-Some-Some.ensures.1 ∙ none_under (suc highest_tick) _ _ _ _ _ (omega (arith, c.if-kept-eq0.false)) (λ p h. c.in_default-lowest_tick.ensures p (omega arith))
+    c.highest_kept.ensures ∙ none_under (suc highest_tick) _ _ _ _ _ (omega (arith, c.if-kept-eq0.false)) (λ p h. c.in_default-lowest_tick.ensures p (omega arith))
 
 pub returns-in_default-highest_tick : goal.returns-in_default-highest_tick
 returns-in_default-highest_tick c =
-    let low : c.in-Some-Some.low.value ≡ lowest (suc highest_tick) (kept_of c.args.kept.candidate.figures.now c.args.kept.least) = search rules in
+    let low : c.in-Some-lowest_tick.low.value ≡ lowest (suc highest_tick) (kept_of c.args.kept.candidate.figures.now c.args.kept.least) = search rules in
     low ∙ none_over (suc highest_tick) _ _ _ _ _ (omega (arith, c.if-kept-eq0.false)) c.in-Some.under.value (omega (arith, c.in-Some.under.within)) c.in-Some.ensures.0 (λ p h. c.in_default-highest_tick.ensures p (omega arith))
 
 pub returns : goal.returns
