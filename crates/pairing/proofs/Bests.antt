@@ -56,7 +56,7 @@ pub best_stands : (rank : OrderRank) (side : Bool) (os : List Order) → IfSome 
 best_stands rank side os =
     held_stands side os (best_of rank (length os) (standing_on side os)) (best_held rank (standing_on side os) (length os))
 
-best_in : (rank : OrderRank) (side : Bool) (os : List Order) (k : ℕ) → best_on rank side os ≡ Some k → k < length os
+pub best_in : (rank : OrderRank) (side : Bool) (os : List Order) (k : ℕ) → best_on rank side os ≡ Some k → k < length os
 best_in rank side os k e = let here = best_stands rank side os in stands_in side os k (grind arith)
 
 -- ---- by quotes
