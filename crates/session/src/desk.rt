@@ -27,8 +27,9 @@ fn is_member(member: u8) -> bool
 fn is_opposed(placed: &[Order], ask: Ask) -> bool
     ensures { result ≡ list_any (opposes ask) placed.now }
 {
+    // The side before the member: half of the orders are passed over at it, where many may be the member's own.
     placed.iter().any(|order| {
-        order.life == Life::Standing && order.member == ask.member && order.side != ask.side
+        order.life == Life::Standing && order.side != ask.side && order.member == ask.member
     })
 }
 
