@@ -3,9 +3,10 @@ ghost use Rattle.std.specs.Prelude.{◌≡◌, ℕ, ◌≤◌, Result as Answers
 ghost use Rattle.std.specs.List.{list_any};
 ghost use Rattle.steps.specs.declared.refusal.Refusal.{Refusal as Why};
 ghost use Rattle.ticks.specs.Ticks.{highest_tick};
+ghost use Rattle.orders.specs.Orders.{buys};
 ghost use Rattle.orders.specs.Settlement.{Session};
 ghost use Rattle.orders.specs.Held.{session_of};
-ghost use Rattle.session.specs.Entries.{entered};
+ghost use Rattle.session.specs.Entries.{entered, stands_for};
 ghost use Rattle.steps.specs.Calls.{is_member, opposes, may_trade, closed, withdraw, status, account_of, line_at};
 
 use orders::order::{
@@ -23,14 +24,28 @@ fn is_member(member: u8) -> bool
     (1..=LAST_MEMBER).contains(&member)
 }
 
+/// Whether the member has a standing order on the side.
+fn has_standing(placed: &[Order], member: u8, side: Side) -> bool
+    ensures { result ≡ list_any (stands_for member (buys side)) placed.now }
+{
+    // By hand: `any` takes a step more for each order, and every place looks at all of them here.
+    for order in placed {
+        if order.life == Life::Standing && order.side == side && order.member == member {
+            return true;
+        }
+    }
+    false
+}
+
 /// Whether the member has a standing order on the other side.
 fn is_opposed(placed: &[Order], ask: Ask) -> bool
     ensures { result ≡ list_any (opposes ask) placed.now }
 {
-    // The side before the member: half of the orders are passed over at it, where many may be the member's own.
-    placed.iter().any(|order| {
-        order.life == Life::Standing && order.side != ask.side && order.member == ask.member
-    })
+    // With the side by its name, each side has a loop of its own, in which it is a constant.
+    match ask.side {
+        Side::Buy => has_standing(placed, ask.member, Side::Sell),
+        Side::Sell => has_standing(placed, ask.member, Side::Buy),
+    }
 }
 
 /// Numbers the order of an ask, if every question about it is answered yes. It has no lines yet.
