@@ -28,7 +28,7 @@ fn is_member(member: u8) -> bool
 fn has_standing(placed: &[Order], member: u8, side: Side) -> bool
     ensures { result ≡ list_any (stands_for member (buys side)) placed.now }
 {
-    // By hand: `any` takes a step more for each order, and every place looks at all of them here.
+    // By hand: `any` takes a step more for each order, and a place looks at up to 511 of them here.
     for order in placed {
         if order.life == Life::Standing && order.side == side && order.member == member {
             return true;
